@@ -18,7 +18,7 @@ mod board;
 mod board_fault;
 mod hush;
 mod load;
-mod scans;
+mod scan_steps;
 mod seats;
 mod steps;
 mod table_steps;
@@ -27,7 +27,7 @@ mod view;
 pub use board::{Board, Parts};
 pub use board_fault::BoardFault;
 pub use load::Load;
-pub use scans::ScanSeat;
+pub use scan_steps::ScanSeat;
 pub use seats::{Bundle, ReadSeat, WorkSeat};
 pub use view::{
     Answer, Asked, Look, Member, PublishEntry, ScanInProgress, ScanLog, SeatView, Version, Who,

@@ -1,10 +1,13 @@
-//! The steps of the table with one more argument, `_about`, for the proof alone; the compiled code drops it.
+//! The atomic steps on the table's words, and the split of a seat: those of `atomic_table` with one more argument, `_about`, which only
+//! the proof reads; the compiled code drops it.
 //!
-//! What a step tells of a view is a play, which the types name, and a split says so which part goes where. The calls of this crate give
-//! `Brand` for both, whose own ghosts are placeholders: each call picks its play or split in its `Invariants.antt`, as `ghosts-load_as`
-//! in proofs/board/Board/load, and may speak there of `_about`. `step` is what the table notes of an access: the word, what was stored, and of
-//! slots nothing; `Allows` that the rule holds after it if it held before; a seat's `id` is its number at the table, not a board's. A table's view comes with the slots that a seat holds, `me.1`; the board
-//! uses none, so that list is empty.
+//! A *play* says how a step changes the view of the seat that makes it, a *split* which part of a view goes to which seat. Types name
+//! them. The calls of this crate name `Brand` for both, whose own ghosts are placeholders: each call picks its play or split in its
+//! `Invariants.antt`, as `ghosts-load_as` in proofs/board/Board/load, and may speak there of `_about`.
+//!
+//! In the contracts, `step` is what the table notes of an access: the word, what was stored, and of slots nothing. `Allows` says that the
+//! rule holds after the step if it held before. A seat's `id` is its number at the table, not a board's. A view comes with the slots
+//! that its seat holds, `me.1`; the board uses none, so that list is empty.
 ghost use Rattle.std.specs.Prelude.{◌≡◌, ◌<◌, [], ◌++◌};
 ghost use mathlib.Core.Option.{none};
 ghost use Rattle.atomic_table.specs.Table.{step, Allows, Splits};
@@ -13,6 +16,7 @@ ghost use Rattle.register_rule.specs.Members.{group, met};
 use crate::view::SeatView;
 use atomic_table::{Join, Play, Seat, Shared, Split, TableRule};
 
+/// A load of the table's word `word` by this seat.
 #[inline]
 pub(crate) fn load_as<X, K, J: Play<(), SeatView>, P: TableRule<(), SeatView, K>>(
     shared: &Shared<(), SeatView, K, P>,
@@ -29,6 +33,7 @@ pub(crate) fn load_as<X, K, J: Play<(), SeatView>, P: TableRule<(), SeatView, K>
     shared.load::<J>(seat, word)
 }
 
+/// A store of `new` to the table's word `word` by this seat.
 #[inline]
 pub(crate) fn store_as<X, K, J: Play<(), SeatView>, P: TableRule<(), SeatView, K>>(
     shared: &Shared<(), SeatView, K, P>,
@@ -46,6 +51,7 @@ pub(crate) fn store_as<X, K, J: Play<(), SeatView>, P: TableRule<(), SeatView, K
     shared.store::<J>(seat, word, new);
 }
 
+/// Parts a seat in two: the one that is answered takes the right part of the view.
 pub(crate) fn split_as<X, K, J: Split<SeatView>, P: TableRule<(), SeatView, K>>(
     shared: &Shared<(), SeatView, K, P>,
     seat: &mut Seat<(), SeatView>,

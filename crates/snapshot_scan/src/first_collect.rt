@@ -45,7 +45,7 @@ fn open_one<
         → HasOpened (width C H G) place ms rows (members_of (S.bundle seat.old)) remembered.old opened.old known.old
         → HasOpened (width C H G) (place + 1) ms rows (members_of (S.bundle seat.new)) remembered.new opened.new known.new }
 {
-    opened[place] = remembered[place].look(board, seat, place, known);
+    opened[place] = remembered[place].open_or_read(board, seat, place, known);
 }
 
 /// Opens so many places, from `from` on, where those before are opened, as [`open_one`].

@@ -50,7 +50,7 @@ impl RememberedRow {
 
     /// The opening load of the segment, and its row, where it is not the one that is remembered: then `known` becomes false.
     #[inline]
-    pub fn look<
+    pub fn open_or_read<
         S: ScanSeat<N, C, H, G>,
         const N: usize,
         const C: usize,

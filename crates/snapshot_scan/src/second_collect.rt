@@ -121,7 +121,7 @@ pub(crate) fn confirm_known<
 
 /// The second collect of a try. It says whether each number was found again. Where the totals change is listed in `changed_totals`.
 #[inline(never)]
-fn confirm_all<
+fn confirm_and_settle<
     S: ScanSeat<N, C, H, G>,
     const N: usize,
     const C: usize,
@@ -200,7 +200,7 @@ pub(crate) fn confirm<
     if known {
         return confirm_known(board, seat, remembered, opened, found);
     }
-    confirm_all(
+    confirm_and_settle(
         board,
         seat,
         remembered,

@@ -34,28 +34,28 @@ pub returns-then-known-clause-quiet : goal.returns-then-known-clause-quiet
 returns-then-known-clause-quiet g c = λ _. (refl, refl)
 
 pub returns-clause-table : goal.returns-clause-table
-returns-clause-table g c = c.confirm_all.ensures.table
+returns-clause-table g c = c.confirm_and_settle.ensures.table
 
 pub returns-clause-ruled : goal.returns-clause-ruled
-returns-clause-ruled g c = c.confirm_all.ensures.ruled
+returns-clause-ruled g c = c.confirm_and_settle.ensures.ruled
 
 pub returns-clause-wide : goal.returns-clause-wide
-returns-clause-wide g c = c.confirm_all.ensures.wide
+returns-clause-wide g c = c.confirm_and_settle.ensures.wide
 
 pub returns-clause-totals : goal.returns-clause-totals
-returns-clause-totals g c = c.confirm_all.ensures.totals
+returns-clause-totals g c = c.confirm_and_settle.ensures.totals
 
 pub returns-clause-view : goal.returns-clause-view
-returns-clause-view g c = c.confirm_all.ensures.view
+returns-clause-view g c = c.confirm_and_settle.ensures.view
 
 pub returns-clause-risen : goal.returns-clause-risen
-returns-clause-risen g c = c.confirm_all.ensures.risen
+returns-clause-risen g c = c.confirm_and_settle.ensures.risen
 
 pub returns-clause-held : goal.returns-clause-held
-returns-clause-held g c = c.confirm_all.ensures.held
+returns-clause-held g c = c.confirm_and_settle.ensures.held
 
 pub returns-clause-clean : goal.returns-clause-clean
-returns-clause-clean g c = c.confirm_all.ensures.clean
+returns-clause-clean g c = c.confirm_and_settle.ensures.clean
 
 pub returns-clause-quiet : goal.returns-clause-quiet
 returns-clause-quiet g c = λ e. absurd (not_known (sym e ∙ c.if-known.false))
@@ -64,4 +64,4 @@ pub returns-then-known-clause-listed : goal.returns-then-known-clause-listed
 returns-then-known-clause-listed g c = moves_none (width g.row.C g.row.H g.row.G) c.args.totals.now c.args.changed_totals.now
 
 pub returns-clause-listed : goal.returns-clause-listed
-returns-clause-listed g c = c.confirm_all.ensures.listed
+returns-clause-listed g c = c.confirm_and_settle.ensures.listed

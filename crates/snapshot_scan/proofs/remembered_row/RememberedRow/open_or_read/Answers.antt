@@ -6,7 +6,7 @@ use Rattle.register_rule.specs.ScanSteps.{after_open}
 use Rattle.register_rule.specs.Seats.{members_of}
 use Rattle.snapshot_scan.specs.Shape.{read_all, looked_at}
 use Rattle.snapshot_scan.proofs.Words.{led_led, over}
-use Rattle.snapshot_scan.proofs.remembered_row.RememberedRow.look.Goals as goal
+use Rattle.snapshot_scan.proofs.remembered_row.RememberedRow.open_or_read.Goals as goal
 
 pub returns-then-number-self-clause-member : goal.returns-then-number-self-clause-member
 returns-then-number-self-clause-member g c =

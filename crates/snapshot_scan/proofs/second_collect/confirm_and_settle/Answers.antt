@@ -19,7 +19,7 @@ use Rattle.snapshot_scan.specs.RememberedRows.{IsWide, version_of, words_of, set
 use Rattle.snapshot_scan.proofs.Words.{take_next, take_all, length_take, led_some, with_led, with_same, scan_with, from_set}
 use Rattle.snapshot_scan.proofs.Settling.{confirms_more, row_in, sum_low, sum_set, words_wide, settling_starts, set_at}
 use Rattle.snapshot_scan.proofs.Moving.{moves_none, moves_then}
-use Rattle.snapshot_scan.proofs.second_collect.confirm_all.Goals as goal
+use Rattle.snapshot_scan.proofs.second_collect.confirm_and_settle.Goals as goal
 
 pub loop-place-init : goal.loop-place-init
 loop-place-init g c =

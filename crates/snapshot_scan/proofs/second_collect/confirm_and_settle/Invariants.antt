@@ -8,7 +8,7 @@ use Rattle.snapshot_scan.specs.declared.remembered_row.RememberedRow.{Remembered
 use Rattle.snapshot_scan.specs.Shape.{scan_of, with_scan, IsRuled}
 use Rattle.snapshot_scan.specs.ChangedItems.{ListsChanges}
 use Rattle.snapshot_scan.specs.RememberedRows.{AreWide, AreTotals, settling}
-use Rattle.snapshot_scan.proofs.second_collect.confirm_all.Given as goal
+use Rattle.snapshot_scan.proofs.second_collect.confirm_and_settle.Given as goal
 
 abbrev pub invariant-loop-place : goal.invariant-loop-place
 invariant-loop-place g l = let bundle = g.S.ScanSeat.bundle in let ms = members_of (bundle l.fn.seat) in
