@@ -19,7 +19,7 @@ use Rattle.snapshot_core.specs.Scan.{asks_or_fails, asked_from, asks_or_ends, co
 use Rattle.snapshot_core.specs.Sized.{IsSized}
 use Rattle.snapshot_core.specs.Tries.{View}
 use Rattle.snapshot_core.proofs.Past.{number_rises, row_rises, row_stays, sum_to, sum_ap, sum_le, rows_total, Inside}
-use Rattle.snapshot_core.proofs.Sized.{asked_within}
+use Rattle.snapshot_core.proofs.Sized.{asked_within, sized_at_base, sized_put}
 
 -- f, with c at i
 put : (ℕ → ℕ) → ℕ → ℕ → ℕ → ℕ
@@ -178,16 +178,7 @@ module _ (adds : List Op → ℕ → ℕ) (w n : ℕ) (ps : List Published) (b :
   collects e s t v inside z size words r base = cond_both (eqb s.tries 1) (record s { floor = s.opened; base = s.found }) s
       (λ (y : Scan). Good adds w n ps b e (asks_or_ends (failed_at s.opened s.whole s.found (least_of s)) y) t v)
       (λ h. settles e (record s { floor = s.opened; base = s.found }) t v (failed_at s.opened s.whole s.found (least_of s)) inside
-      (record {
-        some = z.some;
-        most = z.most;
-        begun = z.begun;
-        few = z.few;
-        inside = z.inside;
-        opened = z.opened;
-        whole = z.whole;
-        found = z.found;
-      }) size words
+      (sized_at_base s z) size words
       (record { mid = r.mid; after = r.after; by = r.by; firsts = r.firsts; found = r.found })
       (λ q l. let f = r.found q l in let f1 = f.1 in let af = r.after in (f.0, omega arith, f.2, f.3)) refl)
       (λ h. settles e s t v (failed_at s.opened s.whole s.found (least_of s)) inside z size words r (base (eqb-false s.tries 1 h))
@@ -304,16 +295,7 @@ module _ (adds : List Op → ℕ → ℕ) (w n : ℕ) (ps : List Published) (b :
         ),
       ))
       (λ h. let over = ltb-false (p + 1) s.n h in collects k (record s { found = set s.found p num }) t u inside
-      (record {
-        some = z.some;
-        most = z.most;
-        begun = z.begun;
-        few = z.few;
-        inside = z.inside;
-        opened = z.opened;
-        whole = z.whole;
-        found = length-set _ _ _ ∙ z.found;
-      }) size len_t
+      (sized_put num p s z) size len_t
       (record { mid = r.mid; after = r.after; by = by_k; firsts = r.firsts; found = λ q l. found_at q (omega arith) })
       (λ ne. later_base e k s le (base ne)))
     where

@@ -51,18 +51,34 @@ sized_asks k s z = go (next_asked_of s.base s.found k (s.n - k)) refl
     go (Some p) e = let w = asked_within s.base s.found k (s.n - k) p e in let w0 = w.0 in let w1 = w.1 in
         sized_to s s.tries (Ask p) z z.begun z.few (omega arith)
 
+-- the numbers of its first try become the floor and the base
+pub sized_at_base : (s : Scan) → IsSized s → IsSized (record s { floor = s.opened; base = s.found })
+sized_at_base s z = record {
+  some = z.some;
+  most = z.most;
+  begun = z.begun;
+  few = z.few;
+  inside = z.inside;
+  opened = z.opened;
+  whole = z.whole;
+  found = z.found;
+}
+
+-- a number is found
+pub sized_put : (number place : ℕ) (s : Scan) → IsSized s → IsSized (record s { found = set s.found place number })
+sized_put number place s z = record {
+  some = z.some;
+  most = z.most;
+  begun = z.begun;
+  few = z.few;
+  inside = z.inside;
+  opened = z.opened;
+  whole = z.whole;
+  found = length-set _ _ _ ∙ z.found;
+}
+
 sized_based : (s : Scan) → IsSized s → IsSized (based s)
-sized_based s z = cond_both (eqb s.tries 1) (record s { floor = s.opened; base = s.found }) s IsSized
-    (λ h. record {
-      some = z.some;
-      most = z.most;
-      begun = z.begun;
-      few = z.few;
-      inside = z.inside;
-      opened = z.opened;
-      whole = z.whole;
-      found = z.found;
-    })
+sized_based s z = cond_both (eqb s.tries 1) (record s { floor = s.opened; base = s.found }) s IsSized (λ h. sized_at_base s z)
     (λ h. z)
 
 sized_ends : (t : Bool) (s : Scan) → IsSized s → IsSized (asks_or_ends t s)
@@ -92,16 +108,8 @@ sized_first number whole s _ z = z
 
 sized_found : (number place : ℕ) (s : Scan) (next : Next) → place_next next < s.n → IsSized s
     → IsSized (record s { found = set s.found place number; next = next })
-sized_found number place s next i z = record {
-  some = z.some;
-  most = z.most;
-  begun = z.begun;
-  few = z.few;
-  inside = i;
-  opened = z.opened;
-  whole = z.whole;
-  found = length-set _ _ _ ∙ z.found;
-}
+sized_found number place s next i z = sized_to (record s { found = set s.found place number }) s.tries next
+    (sized_put number place s z) z.begun z.few i
 
 pub sized_second : (number : ℕ) (s : Scan) (next : Next) → IsSized s → IsSized (second_by number s next)
 sized_second number s (Second place) z =

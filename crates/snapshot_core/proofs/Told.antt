@@ -20,7 +20,7 @@ use Rattle.snapshot_core.specs.Tries.{View, Read, Try, place_of, number_met, fro
 use Rattle.snapshot_core.specs.Tries.{lends_view, lends, none_lends, Failed, AllFailed, first_try, floor_of, base_of}
 use Rattle.snapshot_core.proofs.Collects.{words, Stands, count_of, places_more, stands_more, parts_are, clean_is, least_within}
 use Rattle.snapshot_core.proofs.Collects.{least_held, tests_at, asked_over, asked_none, asked_some, asked_after, asks_same}
-use Rattle.snapshot_core.proofs.Sized.{asked_within}
+use Rattle.snapshot_core.proofs.Sized.{asked_within, sized_at_base, sized_put}
 
 pub reads_append : (xs ys : List Try) → reads_of (xs ++ ys) ≡ reads_of xs ++ reads_of ys
 reads_append [] ys = refl
@@ -237,16 +237,7 @@ told_collects s [] t z count arrays heads both empty = cond_both (eqb s.tries 1)
     (λ (y : Scan). IsScanAfter (asks_or_ends (failed_at s.opened s.whole s.found (least_of s)) y) (reads_of ([] ++ t ∷ [])))
     (λ h. told_ends (record s { floor = s.opened; base = s.found }) [] t (failed_at s.opened s.whole s.found (least_of s))
     (record {
-      sized = record {
-        some = z.some;
-        most = z.most;
-        begun = z.begun;
-        few = z.few;
-        inside = z.inside;
-        opened = z.opened;
-        whole = z.whole;
-        found = z.found;
-      };
+      sized = sized_at_base s z;
       counted = count;
       arrays = arrays;
       collects = both;
@@ -324,16 +315,7 @@ told_second s r p before t z at count arrays heads (lt, places, seconds, no_asks
       no_asks,
     ))
     (λ h. let l = ltb-false (p + 1) s.n h in told_collects (record s { found = set s.found p r.number }) before more
-    (record {
-      some = z.some;
-      most = z.most;
-      begun = z.begun;
-      few = z.few;
-      inside = z.inside;
-      opened = z.opened;
-      whole = z.whole;
-      found = length-set _ _ _ ∙ z.found;
-    })
+    (sized_put r.number p s z)
     (counted_on s before t more count) (arrays.0, arrays.1, found_of) (later before heads)
     (record { first = places; second = places_of ∙ (let e : suc p ≡ s.n = omega arith in ap (from_on 0) e) }) no_asks))
   where
