@@ -1,5 +1,6 @@
 //! The second collect of a try; where its rows are all remembered, four places in one turn.
-ghost use Rattle.std.specs.Prelude.{◌≡◌, ℕ, ◌+◌, ◌<◌, ◌≤◌, ◌↔◌, List, IsTrue, length, slice_index, true};
+ghost use Rattle.std.specs.Prelude.{◌≡◌, ◌≢◌, ℕ, ◌+◌, ◌<◌, ◌≤◌, ◌==◌, ◌&&◌, ◌↔◌, Bool, true, false, cond, List, IsTrue, length, slice_index};
+ghost use Rattle.std.specs.Prelude.{slice_set, MatchOption};
 ghost use Rattle.ledger_core.specs.Ops.{width};
 ghost use Rattle.segment_layout.specs.Layout.{IsGeometry};
 ghost use Rattle.register_rule.specs.declared.view.Member.{Member};
@@ -19,8 +20,7 @@ use register_rule::{Board, ScanSeat};
 /// How many places are confirmed in one turn.
 const TURN: usize = 4;
 
-/// Confirms a place, where those before it are confirmed. It says whether all of them were the `same`, and this one's number was
-/// found again.
+/// Confirms a place, where those before it are confirmed: its number now.
 #[inline(always)]
 fn confirm_one<
     S: ScanSeat<N, C, H, G>,
@@ -28,29 +28,34 @@ fn confirm_one<
     const C: usize,
     const H: usize,
     const G: usize,
->(
-    board: &Board<N, C, H, G>,
-    seat: &mut S,
-    opened: &[u64],
-    found: &mut [u64],
-    place: usize,
-    same: bool,
-) -> bool
+>(board: &Board<N, C, H, G>, seat: &mut S, place: usize) -> u64
     requires of_board { MayScan board.now (S.bundle seat.old) }
     requires geometry { IsGeometry N C H G }
-    requires inside { (place < N) × (length opened.now ≡ N) × (length found.old ≡ N) }
+    requires inside { place < N }
     ensures table { table_of (S.bundle seat.new) ≡ table_of (S.bundle seat.old) }
     ensures leads { HasMember (members_of (S.bundle seat.new)) }
-    ensures confirmed { (ms : List Member) (gs : List RememberedRow) → length gs ≡ N → HasConfirmed N C H G place ms gs opened.now
-        (members_of (S.bundle seat.old)) found.old same
-        → HasConfirmed N C H G (place + 1) ms gs opened.now (members_of (S.bundle seat.new)) found.new result }
+    ensures confirmed { (ms : List Member) (gs : List RememberedRow) (os fs : List ℕ) (all : Bool)
+        → (length gs ≡ N) × (length os ≡ N) × (length fs ≡ N)
+        → HasConfirmed N C H G place ms gs os (members_of (S.bundle seat.old)) fs all
+        → HasConfirmed N C H G (place + 1) ms gs os (members_of (S.bundle seat.new)) (slice_set fs place result)
+        (all && (slice_index os place == result)) }
 {
-    let again = board.confirm(seat, place);
-    found[place] = again;
-    same & (opened[place] == again)
+    board.confirm(seat, place)
 }
 
-/// Confirms so many places, from `from` on, where those before are confirmed, as [`confirm_one`].
+/// The numbers that were found before a place that has another number now: those that were opened.
+#[cold]
+#[inline(never)]
+fn note_moved(opened: &[u64], found: &mut [u64], place: usize, number: u64)
+    requires inside { (place < length opened.now) × (length found.old ≡ length opened.now) }
+    ensures { found.new ≡ slice_set opened.now place number }
+{
+    found.copy_from_slice(opened);
+    found[place] = number;
+}
+
+/// Confirms so many places, from `from` on, where those before were found again, up to the first that has another number now, if there is
+/// one. Only then `found` is written.
 #[inline(always)]
 fn confirm_places<
     S: ScanSeat<N, C, H, G>,
@@ -65,26 +70,56 @@ fn confirm_places<
     found: &mut [u64],
     from: usize,
     count: usize,
-    same: bool,
-) -> bool
+) -> Option<usize>
     requires of_board { MayScan board.now (S.bundle seat.old) }
     requires geometry { IsGeometry N C H G }
     requires inside { (from + count ≤ N) × (length opened.now ≡ N) × (length found.old ≡ N) }
     ensures table { table_of (S.bundle seat.new) ≡ table_of (S.bundle seat.old) }
     ensures leads { HasMember (members_of (S.bundle seat.new)) }
-    ensures confirmed { (ms : List Member) (gs : List RememberedRow) → length gs ≡ N → HasConfirmed N C H G from ms gs opened.now
-        (members_of (S.bundle seat.old)) found.old same
-        → HasConfirmed N C H G (from + count) ms gs opened.now (members_of (S.bundle seat.new)) found.new result }
+    ensures confirmed { MatchOption result
+        ((ms : List Member) (gs : List RememberedRow) → length gs ≡ N
+        → HasConfirmed N C H G from ms gs opened.now (members_of (S.bundle seat.old)) opened.now true
+        → HasConfirmed N C H G (from + count) ms gs opened.now (members_of (S.bundle seat.new)) opened.now true)
+        (λ place. (place < N) × ((ms : List Member) (gs : List RememberedRow) → length gs ≡ N
+        → HasConfirmed N C H G from ms gs opened.now (members_of (S.bundle seat.old)) opened.now true
+        → HasConfirmed N C H G (place + 1) ms gs opened.now (members_of (S.bundle seat.new)) found.new false)) }
 {
-    let mut all = same;
     for k in 0..count {
-        all = confirm_one(board, seat, opened, found, from + k, all);
+        let place = from + k;
+        let number = confirm_one(board, seat, place);
+        if number != opened[place] {
+            note_moved(opened, found, place, number);
+            return Some(place);
+        }
     }
-    all
+    None
+}
+
+/// Confirms the places from `from` on, where one before was not found again.
+#[cold]
+#[inline(never)]
+fn confirm_rest<
+    S: ScanSeat<N, C, H, G>,
+    const N: usize,
+    const C: usize,
+    const H: usize,
+    const G: usize,
+>(board: &Board<N, C, H, G>, seat: &mut S, found: &mut [u64], from: usize)
+    requires of_board { MayScan board.now (S.bundle seat.old) }
+    requires geometry { IsGeometry N C H G }
+    requires inside { (from ≤ N) × (length found.old ≡ N) }
+    ensures table { table_of (S.bundle seat.new) ≡ table_of (S.bundle seat.old) }
+    ensures confirmed { (ms : List Member) (gs : List RememberedRow) (os : List ℕ) → (length gs ≡ N) × (length os ≡ N)
+        → HasConfirmed N C H G from ms gs os (members_of (S.bundle seat.old)) found.old false
+        → HasConfirmed N C H G N ms gs os (members_of (S.bundle seat.new)) found.new false }
+{
+    for place in from..N {
+        found[place] = confirm_one(board, seat, place);
+    }
 }
 
 /// The second collect of a try whose rows are all remembered: nothing is left to remember. It says whether each number was
-/// found again.
+/// found again; where one was not, `found` has all that were found.
 #[inline(always)]
 pub(crate) fn confirm_known<
     S: ScanSeat<N, C, H, G>,
@@ -105,18 +140,26 @@ pub(crate) fn confirm_known<
     ensures table { table_of (S.bundle seat.new) ≡ table_of (S.bundle seat.old) }
     ensures ruled { IsRuled N C H G (S.bundle seat.new) }
     ensures view { members_of (S.bundle seat.new) ≡ with_scan
-        (ended N (width C H G) (settling opened.now found.new remembered.now (scan_in (S.bundle seat.old))))
+        (ended N (width C H G) (settling opened.now (cond result opened.now found.new) remembered.now (scan_in (S.bundle seat.old))))
         (members_of (S.bundle seat.old)) }
-    ensures risen { (q : ℕ) → q < N → slice_index opened.now q ≤ slice_index found.new q }
-    ensures clean { IsTrue result ↔ (opened.now ≡ found.new) }
+    ensures risen { (q : ℕ) → q < N → slice_index opened.now q ≤ slice_index (cond result opened.now found.new) q }
+    ensures moved { result ≡ false → opened.now ≢ found.new }
 {
     let _ = remembered;
     let turns = N / TURN;
-    let mut same = true;
     for turn in 0..turns {
-        same = confirm_places(board, seat, opened, found, TURN * turn, TURN, same);
+        let moved = confirm_places(board, seat, opened, found, TURN * turn, TURN);
+        if let Some(place) = moved {
+            confirm_rest(board, seat, found, place + 1);
+            return false;
+        }
     }
-    confirm_places(board, seat, opened, found, TURN * turns, N % TURN, same)
+    let moved = confirm_places(board, seat, opened, found, TURN * turns, N % TURN);
+    if let Some(place) = moved {
+        confirm_rest(board, seat, found, place + 1);
+        return false;
+    }
+    true
 }
 
 /// The second collect of a try. It says whether each number was found again. Where the totals change is listed in `changed_totals`.
@@ -188,12 +231,12 @@ pub(crate) fn confirm<
     ensures wide { AreWide (width C H G) remembered.new }
     ensures totals { AreTotals (width C H G) remembered.new totals.new }
     ensures view { members_of (S.bundle seat.new) ≡ with_scan
-        (ended N (width C H G) (settling opened.now found.new remembered.new (scan_in (S.bundle seat.old))))
+        (ended N (width C H G) (settling opened.now (cond result opened.now found.new) remembered.new (scan_in (S.bundle seat.old))))
         (members_of (S.bundle seat.old)) }
-    ensures risen { (q : ℕ) → q < N → slice_index opened.now q ≤ slice_index found.new q }
+    ensures risen { (q : ℕ) → q < N → slice_index opened.now q ≤ slice_index (cond result opened.now found.new) q }
     ensures held { (q : ℕ) (g : RememberedRow) → get_elem? remembered.new q ≡ some g
-        → slice_index opened.now q ≡ slice_index found.new q → g.number ≡ slice_index opened.now q }
-    ensures clean { IsTrue result ↔ (opened.now ≡ found.new) }
+        → slice_index opened.now q ≡ slice_index (cond result opened.now found.new) q → g.number ≡ slice_index opened.now q }
+    ensures moved { result ≡ false → opened.now ≢ found.new }
     ensures quiet { known ≡ true → (remembered.new ≡ remembered.old) × (totals.new ≡ totals.old) }
     ensures listed { ListsChanges (width C H G) totals.old totals.new changed_totals.old changed_totals.new }
 {

@@ -25,9 +25,10 @@ impl<const N: usize, const C: usize, const H: usize, const G: usize> ScanMemory<
     ghost use Rattle.snapshot_scan.specs.ScanMemories.{rows_of, totals_in, opened_in, found_in, changed_totals_in, answer_of};
     ghost use Rattle.snapshot_scan.specs.ScanMemories.{HasView, IsReady};
     ghost use Rattle.snapshot_scan.specs.ChangedItems.{Lists};
+    ghost use Rattle.snapshot_scan.specs.TryEnds.{found_by};
     ghost use Rattle.snapshot_scan.specs.Conditions.{MayTry, HasTried, HasFailedOnce, HasEnded};
 
-    // A try of a scan. Where the totals change is listed in `changed_totals`, too.
+    // A try of a scan. Where the totals change is listed in `changed_totals`, too. `found` is written where the try is not clean.
     #[inline(always)]
     fn one_try<S: ScanSeat<N, C, H, G>>(
         &mut self,
@@ -36,8 +37,8 @@ impl<const N: usize, const C: usize, const H: usize, const G: usize> ScanMemory<
     ) -> TryEnd
         requires may { MayTry board.now (S.bundle seat.old) self.old.remembered.items self.old.opened.items }
         ensures { HasTried N C H G (S.bundle seat.old) (S.bundle seat.new) self.old.remembered.items self.new.remembered.items
-            self.old.totals.items self.new.totals.items self.new.opened.items self.new.found.items self.old.changed_totals
-            self.new.changed_totals result }
+            self.old.totals.items self.new.totals.items self.new.opened.items
+            (found_by result self.new.opened.items self.new.found.items) self.old.changed_totals self.new.changed_totals result }
     {
         let remembered = self.remembered.as_mut_slice();
         let opened = self.opened.as_mut_slice();

@@ -35,23 +35,22 @@ at_some (x ∷ l) zero h = (x, refl)
 at_some (x ∷ l) (suc i) h = at_some l i (omega (arith, h))
 
 pub returns-clause-leads : goal.returns-clause-leads
-returns-clause-leads g c = subst HasMember (sym c.confirm-again.ensures.learns.member) (led_some _ _ c.requires.of_board.1)
+returns-clause-leads g c = subst HasMember (sym c.confirm.ensures.learns.member) (led_some _ _ c.requires.of_board.1)
 
 pub returns-clause-confirmed : goal.returns-clause-confirmed
-returns-clause-confirmed g c = λ ms gs few is.
+returns-clause-confirmed g c = λ ms gs os fs all lens is.
     let bundle = g.S.ScanSeat.bundle in
     let w : ℕ = width g.row.C g.row.H g.row.G in
     let n : ℕ = g.row.N in
-    let p = c.args.place in let fs = c.args.found.now in let os = c.args.opened.now in
-    let s = c.confirm-again.result in
+    let p = c.args.place in let few = lens.0 in
+    let s = c.confirm.result in
     let o = get_or os p 0 in
     let c0 : ScanLog = scan_of ms in
-    let inside = c.requires.inside in
-    let ltn : p < n = inside.0 in
+    let ltn : p < n = c.requires.inside in
     let lt : p < length gs = omega (arith, few, ltn) in
     let elem = at_some gs p lt in let gg : RememberedRow = elem.0 in
-    let lto : p < length os = omega (arith, inside.1, ltn) in
-    let ltf : p < length fs = omega (arith, inside.2, ltn) in
+    let lto : p < length os = omega (arith, lens.1, ltn) in
+    let ltf : p < length fs = omega (arith, lens.2, ltn) in
     let at : get_elem? gs p ≡ some gg = elem.1 in
     let ato : get_elem? os p ≡ some o = there os p 0 lto in
     let more : take (p + 1) (set fs p s) ≡ take p fs ++ s ∷ [] = take_next fs p s ltf in
@@ -66,29 +65,29 @@ returns-clause-confirmed g c = λ ms gs few is.
     let no : (p == n) ≡ false = ne_eqb p n (λ e. omega (arith, e, ltn)) in
     let was : members_of (bundle c.args.seat.now) ≡ with_scan z ms = is.view
     ∙ ap (λ (b : Bool). with_scan (cond b (ended n w z) z) ms) no in
-    let view : members_of (bundle c.confirm-again.new.seat) ≡ with_scan (cond ((p + 1) == n) (ended n w z') z') ms =
-    c.confirm-again.ensures.learns.member
+    let view : members_of (bundle c.confirm.new.seat) ≡ with_scan (cond ((p + 1) == n) (ended n w z') z') ms =
+    c.confirm.ensures.learns.member
     ∙ (ap (led (scan_changed (after_confirm n w p s))) was ∙ (with_led (after_confirm n w p s) z ms
     ∙ ap (λ (d : ScanLog). with_scan (cond ((p + 1) == n) (ended n w d) d) ms) shape)) in
     let scan : scan_of (members_of (bundle c.args.seat.now)) ≡ z = ap scan_of was ∙ scan_with z ms is.starts in
     let risen : o ≤ s = let at_load = is.loaded p ltn in
-    c.confirm-again.ensures.told.opened at_load.0 o (ap (λ (d : ScanLog). get_elem? d.opened at_load.0) scan ∙ at_load.1) in
+    c.confirm.ensures.told.opened at_load.0 o (ap (λ (d : ScanLog). get_elem? d.opened at_load.0) scan ∙ at_load.1) in
     record {
       starts = is.starts;
       wide = is.wide;
       known = is.known;
       loaded = is.loaded;
-      ruled = λ _. c.confirm-again.ensures.learns.ruled;
+      ruled = λ _. c.confirm.ensures.learns.ruled;
       view = view;
       risen = below_more (λ (q : ℕ). get_or os q 0 ≤ get_or (set fs p s) q 0) p
           (λ q h. let ne : q ≢ p = omega (arith, h) in let e = get_or-set_other fs p q s 0 ne in let r = is.risen q h in
           omega (arith, e, r))
           (let e = get_or-set_same fs p s 0 ltf in omega (arith, e, risen));
-      held = λ t. let both = and_parts c.args.same (o == s) t in below_more (λ (q : ℕ). get_or os q 0 ≡ get_or (set fs p s) q 0) p
+      held = λ t. let both = and_parts all (o == s) t in below_more (λ (q : ℕ). get_or os q 0 ≡ get_or (set fs p s) q 0) p
           (λ q h. let ne : q ≢ p = omega (arith, h) in is.held both.0 q h ∙ sym (get_or-set_other fs p q s 0 ne))
           (eqb-true o s both.1 ∙ sym (get_or-set_same fs p s 0 ltf));
       moved = λ t. ⊎_elim (λ h. let old = is.moved h in let low = old.1 in let other : old.0 ≢ p = λ e. omega (arith, low, e) in
           (old.0, omega (arith, low), λ e. old.2 (e ∙ get_or-set_other fs p old.0 s 0 other)))
           (λ h. (p, omega arith, λ e. eqb-false o s h (e ∙ get_or-set_same fs p s 0 ltf)))
-          (and_cases c.args.same (o == s) t);
+          (and_cases all (o == s) t);
     }

@@ -1,14 +1,19 @@
 use Rattle.std.proofs.Common.{◌≡◌, ◌+◌, ℕ, List, [], ◌∷◌, ◌++◌, length, map, take, drop, slice_index, sym}
-use Rattle.std.proofs.Common.{refl, ap, ◌∙◌, subst, subst₂, arith, rules}
+use Rattle.std.proofs.Common.{refl, ap, ◌∙◌, subst, subst₂, arith, rules, Bool, false, cond}
 use Rattle.ledger_core.specs.Ops.{width}
 use Rattle.ledger_core.specs.Vectors.{is_above}
 use Rattle.register_rule.specs.declared.view.Answer.{Answer}
 use Rattle.register_rule.specs.declared.view.ScanLog.{ScanLog}
 use Rattle.register_rule.specs.ScanSteps.{answered, given_up_if_spent, lent_in}
+use Rattle.register_rule.specs.declared.seats.Bundle.{Bundle}
 use Rattle.register_rule.specs.Seats.{members_of}
 use Rattle.register_rule.specs.History.{Below}
 use Rattle.register_rule.proofs.Words.{each_push}
 use mathlib.Core.Option.{some-ne-none}
+use Rattle.snapshot_scan.specs.declared.scan_memory.ScanMemory.{ScanMemory}
+use Rattle.snapshot_scan.specs.declared.try_end.TryEnd.{TryEnd}
+use Rattle.snapshot_scan.specs.TryEnds.{is_clean, found_by}
+use Rattle.snapshot_scan.specs.Conditions.{HasTried}
 use Rattle.snapshot_scan.specs.Shape.{scan_of, with_scan}
 use Rattle.snapshot_scan.specs.RememberedRows.{version_of, opening, settling, IsLoaded}
 use Rattle.snapshot_scan.specs.Asking.{due_from, asked_worker, MayAsk}
@@ -25,6 +30,16 @@ use Rattle.snapshot_scan.specs.Core.{CameTo, AnswersBy}
 use Rattle.snapshot_scan.proofs.Arriving.{came_later, came_lending, came_up}
 use Rattle.snapshot_scan.proofs.Moving.{lists_then}
 use Rattle.snapshot_scan.proofs.scan_memory.ScanMemory.later_tries.Goals as goal
+
+-- of a try that failed `found` is what the second collect found
+failing : {N C H G : ℕ} (s s' : Bundle) (old new : ScanMemory N C H G) (end : TryEnd) → is_clean end ≡ false
+    → HasTried N C H G s s' old.remembered.items new.remembered.items old.totals.items new.totals.items new.opened.items
+    (found_by end new.opened.items new.found.items) old.changed_totals new.changed_totals end
+    → HasTried N C H G s s' old.remembered.items new.remembered.items old.totals.items new.totals.items new.opened.items
+    new.found.items old.changed_totals new.changed_totals end
+failing {N} {C} {H} {G} s s' old new end failed tried = subst (λ (l : List ℕ). HasTried N C H G s s' old.remembered.items
+    new.remembered.items old.totals.items new.totals.items new.opened.items l old.changed_totals new.changed_totals end)
+    (ap (λ (b : Bool). cond b new.opened.items new.found.items) failed) tried
 
 -- the first try is the first of the tries
 pub loop-k-init : goal.loop-k-init
@@ -84,21 +99,23 @@ ask_all-lends-requires g c =
     let lens = c.args.self.now.sizes in
     let fl = c.copy_from_slice.new.self in let ba = c.copy_from_slice-2.new.self in
     let r = c.one_try-tried.new.self in let clean = sym c.is_clean-clean.ensures ∙ c.if-clean.false in
+    let made = failing (g.S.ScanSeat.bundle c.loop-k.seat) (g.S.ScanSeat.bundle c.one_try-tried.new.seat) c.loop-k.self r
+    c.one_try-tried.result clean c.one_try-tried.ensures in
     let few : length r.remembered.items ≡ n = r.sizes.0 in
     let long : length r.opened.items ≡ n = r.sizes.2 in
     let deep : length r.found.items ≡ n = r.sizes.3 in
     let view = at_loop n c.loop-k._k tries c.loop-k.self.remembered.items fl ba ms _ inv.count c.loop-k-test.true inv.view in
     let d : ScanLog = stood tries c.loop-k.self.remembered.items fl ba (scan_of ms) in
     let fails = loop_fails n w c.loop-k._k r.opened.items r.found.items r.remembered.items c.loop-k.self.remembered.items few long deep tries fl ba ms _ _
-    h.of_board.1 inv.count view (c.one_try-tried.ensures.failed clean) in
+    h.of_board.1 inv.count view (made.failed clean) in
     let scan = now_is _ ms _ h.of_board.1 fails in (
       search rules,
       record {
         of_board = (
-          c.one_try-tried.ensures.table ∙ (inv.table ∙ h.of_board.0),
+          made.table ∙ (inv.table ∙ h.of_board.0),
           still_some _ ms _ h.of_board.1 fails,
         );
-        ruled = c.one_try-tried.ensures.ruled;
+        ruled = made.ruled;
         geometry = c.args.self.now.geometry;
         lengths = (
           search rules,
@@ -120,13 +137,15 @@ loop-k-preserved g c = λ s gs sums h.
     let lens = c.args.self.now.sizes in
     let fl = c.copy_from_slice.new.self in let ba = c.copy_from_slice-2.new.self in
     let r = c.one_try-tried.new.self in let clean = sym c.is_clean-clean.ensures ∙ c.if-clean.false in
+    let made = failing (g.S.ScanSeat.bundle c.loop-k.seat) (g.S.ScanSeat.bundle c.one_try-tried.new.seat) c.loop-k.self r
+    c.one_try-tried.result clean c.one_try-tried.ensures in
     let few : length r.remembered.items ≡ n = r.sizes.0 in
     let long : length r.opened.items ≡ n = r.sizes.2 in
     let deep : length r.found.items ≡ n = r.sizes.3 in
     let view = at_loop n c.loop-k._k tries c.loop-k.self.remembered.items fl ba ms _ inv.count c.loop-k-test.true inv.view in
     let d : ScanLog = stood tries c.loop-k.self.remembered.items fl ba (scan_of ms) in
     let fails = loop_fails n w c.loop-k._k r.opened.items r.found.items r.remembered.items c.loop-k.self.remembered.items few long deep tries fl ba ms _ _
-    h.of_board.1 inv.count view (c.one_try-tried.ensures.failed clean) in
+    h.of_board.1 inv.count view (made.failed clean) in
     let q = c.ask_all-lends.ensures.refuses c.if-lends.false in
     let asked = q.1 ∙ ap (due_from 0 ba) c.as_slice-in-loop-k.ensures.value in
     let t : Tried = record { first = r.opened.items; second = r.found.items; asks = q.0 } in
@@ -135,11 +154,11 @@ loop-k-preserved g c = λ s gs sums h.
     let failed : FailedTry n fl ba t = record {
       opened = long;
       found = deep;
-      risen = c.one_try-tried.ensures.risen;
-      rose = c.one_try-tried.ensures.rose clean;
+      risen = made.risen;
+      rose = made.rose clean;
       asked = asked;
       none = q.2;
-    } in let own = c.ask_all-lends.ensures.table ∙ (c.one_try-tried.ensures.table ∙ inv.table) in (
+    } in let own = c.ask_all-lends.ensures.table ∙ (made.table ∙ inv.table) in (
       tries ++ t ∷ [],
       record {
         table = own;
@@ -147,14 +166,14 @@ loop-k-preserved g c = λ s gs sums h.
         leads = still_some _ ms _ h.of_board.1 end;
         may = may_try c.args.board.now s (g.S.ScanSeat.bundle c.ask_all-lends.new.seat)
             (c.loop-k._k + 1) (tries ++ t ∷ []) r.remembered.items fl ba r.opened.items h.of_board c.args.self.now.geometry own few long
-            c.one_try-tried.ensures.wide (count_more tries t c.loop-k._k inv.count) end;
+            made.wide (count_more tries t c.loop-k._k inv.count) end;
         listed = lists_then w sums c.loop-k.self.totals.items r.totals.items c.loop-k.self.changed_totals r.changed_totals inv.listed
-            c.one_try-tried.ensures.listed;
+            made.listed;
         count = count_more tries t c.loop-k._k inv.count;
         above = each_push (λ (u : Tried). Below (scan_of ms).seen u.first) tries t inv.above
             (seen_below n (stood tries c.loop-k.self.remembered.items fl ba (scan_of ms)) r.opened.items long
             (λ p lt. subst (λ (x : ScanLog). IsLoaded p x (slice_index r.opened.items p)) (now_is d ms _ h.of_board.1 view)
-            (c.one_try-tried.ensures.told p lt)));
+            (made.told p lt)));
         tried = tries_more n fl ba c.loop-k.self.opened.items c.loop-k.self.found.items tries inv.tried c.loop-k.self.remembered.items
             (scan_of ms) r.opened.items r.found.items q.0
             failed;
@@ -173,11 +192,12 @@ returns-then-clean g c = λ s gs sums h.
     let fl = c.copy_from_slice.new.self in let ba = c.copy_from_slice-2.new.self in
     let made = c.one_try-tried.ensures in let r = c.one_try-tried.new.self in
     let is = sym c.is_clean-clean.ensures ∙ c.if-clean.true in let clean = made.clean is in
+    let found = found_by c.one_try-tried.result r.opened.items r.found.items in
     let long : length r.opened.items ≡ n = r.sizes.2 in
     let a : Answer = record { vector = r.opened.items; totals = r.totals.items } in
     let view = at_loop n c.loop-k._k tries c.loop-k.self.remembered.items fl ba ms _ inv.count c.loop-k-test.true inv.view in
     let d : ScanLog = stood tries c.loop-k.self.remembered.items fl ba (scan_of ms) in
-    let end = then_is (λ (x : ScanLog). answered a (settling r.opened.items r.found.items r.remembered.items
+    let end = then_is (λ (x : ScanLog). answered a (settling r.opened.items found r.remembered.items
     (opening r.opened.items r.remembered.items x))) d ms _ _
     h.of_board.1 view clean in
     let scan = now_is _ ms _ h.of_board.1 end in let count = inv.count in let lt = c.loop-k-test.true in
@@ -190,13 +210,13 @@ returns-then-clean g c = λ s gs sums h.
       others = others_same _ ms _ h.of_board.1 end;
       direct = λ _ _. subst (λ (x : ScanLog). IsAnswered n (scan_of ms) x a) (sym scan)
           (direct_later n fl ba c.loop-k.self.opened.items c.loop-k.self.found.items tries inv.tried c.loop-k.self.remembered.items
-          (scan_of ms) r.opened.items r.found.items r.totals.items
+          (scan_of ms) r.opened.items found r.totals.items
           r.remembered.items inv.lengths.0 long
           (λ q low. subst (λ (x : ScanLog). IsLoaded q x (slice_index r.opened.items q)) (now_is d ms _ h.of_board.1 view)
           (made.told q low)));
       came_direct = λ _ _. subst (λ (x : ScanLog). AnswersBy n w (scan_of ms) x a) (sym scan)
           (came_later n w fl ba c.loop-k.self.opened.items c.loop-k.self.found.items tries inv.tried c.loop-k.self.remembered.items
-          (scan_of ms) r.opened.items r.found.items r.remembered.items a
+          (scan_of ms) r.opened.items found r.remembered.items a
           long (made.same is) (omega (arith, count, lt)) refl);
       quiet = λ e. absurd (not_quiet (ap quiet_in e));
       once = λ e. absurd (not_quiet (ap quiet_in e));
@@ -218,8 +238,9 @@ returns-then-lends g c = λ s gs sums h.
     let inv = (c.loop-k.invariant s gs sums h).1 in let tries = (c.loop-k.invariant s gs sums h).0 in
     let lens = c.args.self.now.sizes in
     let fl = c.copy_from_slice.new.self in let ba = c.copy_from_slice-2.new.self in
-    let made = c.one_try-tried.ensures in let r = c.one_try-tried.new.self in
-    let failed = sym c.is_clean-clean.ensures ∙ c.if-clean.false in
+    let r = c.one_try-tried.new.self in let failed = sym c.is_clean-clean.ensures ∙ c.if-clean.false in
+    let made = failing (g.S.ScanSeat.bundle c.loop-k.seat) (g.S.ScanSeat.bundle c.one_try-tried.new.seat) c.loop-k.self r
+    c.one_try-tried.result failed c.one_try-tried.ensures in
     let few : length r.remembered.items ≡ n = r.sizes.0 in
     let long : length r.opened.items ≡ n = r.sizes.2 in
     let deep : length r.found.items ≡ n = r.sizes.3 in

@@ -1,0 +1,15 @@
+use Rattle.std.proofs.Common.{◌≡◌, false, ℕ, List, length}
+use Rattle.register_rule.specs.declared.view.Member.{Member}
+use Rattle.register_rule.specs.Seats.{HasMember, table_of, members_of}
+use Rattle.snapshot_scan.specs.declared.remembered_row.RememberedRow.{RememberedRow}
+use Rattle.snapshot_scan.specs.Collecting.{HasConfirmed}
+use Rattle.snapshot_scan.proofs.second_collect.confirm_rest.Given as goal
+
+abbrev pub invariant-loop-place : goal.invariant-loop-place
+invariant-loop-place g l = let bundle = g.S.ScanSeat.bundle in record {
+  table : table_of (bundle l.seat) ≡ table_of (bundle l.fn.seat);
+  leads : HasMember (members_of (bundle l.seat));
+  confirmed : (ms : List Member) (gs : List RememberedRow) (os : List ℕ) → (length gs ≡ g.row.N) × (length os ≡ g.row.N)
+      → HasConfirmed g.row.N g.row.C g.row.H g.row.G l.from ms gs os (members_of (bundle l.fn.seat)) l.fn.found false
+      → HasConfirmed g.row.N g.row.C g.row.H g.row.G l.place ms gs os (members_of (bundle l.seat)) l.found false;
+}
