@@ -1,5 +1,5 @@
 //! The steps: each makes one atomic load or store of one word of the board, and takes no memory.
-ghost use Rattle.std.specs.Prelude.{◌≡◌, ◌+◌, ◌*◌, ◌<◌, ◌≤◌, [], ◌∷◌, ◌++◌, length};
+ghost use Rattle.std.specs.Prelude.{◌^◌, ◌≡◌, ◌+◌, ◌*◌, ◌<◌, ◌≤◌, [], ◌∷◌, ◌++◌, length};
 ghost use Rattle.bucket_math.specs.Words.{greatest_word};
 ghost use Rattle.ledger_core.specs.Ops.{width, sum_ops};
 ghost use Rattle.ledger_core.specs.Row.{Accepts};
@@ -142,7 +142,7 @@ impl<const N: usize, const C: usize, const H: usize, const G: usize> Board<N, C,
     #[inline]
     pub fn publish(&self, seat: &mut WorkSeat, ops: &[Op], lends: bool)
         requires of_board { IsWorkSeatOf self.now seat.old }
-        requires room { length (worker_of seat.old).work.made + 1 < 18446744073709551616 }
+        requires room { length (worker_of seat.old).work.made + 1 < 2 ^ 64 }
         requires full { HoldsNext N (width C H G) (depth N (width C H G)) (sum_ops C H) ops.now lends (worker_of seat.old) }
         requires accepted { Accepts C H G (word_after (sum_ops C H) (worker_of seat.old).work.made) ops.now }
         ensures of_board { IsWorkSeatOf self.now seat.new }

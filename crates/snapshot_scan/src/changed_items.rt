@@ -1,5 +1,5 @@
 //! At which items of a list something may have changed.
-ghost use Rattle.std.specs.Prelude.{◌≡◌, ◌+◌, ◌<◌, ◌≤◌, ℕ, true, false, [], length, slice_index, IfOk, Contains};
+ghost use Rattle.std.specs.Prelude.{◌^◌, ◌≡◌, ◌+◌, ◌<◌, ◌≤◌, ℕ, true, false, [], length, slice_index, IfOk, Contains};
 ghost use Rattle.snapshot_scan.specs.ChangedItems.{Notes, NotesEach};
 
 use std::alloc::{AllocError, Global};
@@ -19,7 +19,7 @@ pub struct ChangedItems {
 }
 
 impl Model for ChangedItems {
-    ghost use Rattle.std.specs.Prelude.{◌≡◌, ◌≤◌, length, take};
+    ghost use Rattle.std.specs.Prelude.{◌^◌, ◌≡◌, ◌≤◌, length, take};
     ghost use Rattle.snapshot_scan.specs.ChangedItems.{ChangedView};
 
     ghost Value = { ChangedView };
@@ -74,7 +74,7 @@ impl ChangedItems {
     /// Each of these items, so much further along, may have changed, too. Where not all can be listed, all may have.
     #[inline(always)]
     pub fn note_each(&mut self, items: &[usize], shift: usize)
-        requires room { (j : ℕ) → Contains items.now j → j + shift < 18446744073709551616 }
+        requires room { (j : ℕ) → Contains items.now j → j + shift < 2 ^ 64 }
         ensures notes { NotesEach shift items.now self.old self.new }
         ensures fits { self.old.all ≡ false → length self.old.items + length items.now ≤ 256 → self.new.all ≡ false }
     {
@@ -120,7 +120,7 @@ impl ChangedItems {
 #[inline(always)]
 fn write_each(places: &mut [usize], items: &[usize], first: usize, shift: usize)
     requires room { first + length items.now ≤ length places.old }
-    requires fits { (k : ℕ) → k < length items.now → slice_index items.now k + shift < 18446744073709551616 }
+    requires fits { (k : ℕ) → k < length items.now → slice_index items.now k + shift < 2 ^ 64 }
     ensures before { (q : ℕ) → q < first → slice_index places.new q ≡ slice_index places.old q }
     ensures written { (k : ℕ) → k < length items.now → slice_index places.new (first + k) ≡ slice_index items.now k + shift }
 {

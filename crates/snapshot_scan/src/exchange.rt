@@ -1,5 +1,5 @@
 //! Sums of rows, where one row takes the place of another.
-ghost use Rattle.std.specs.Prelude.{◌≡◌, ℕ, ◌+◌, ◌-◌, ◌<◌, ◌≤◌, false, length, slice_index, slice_set, Contains};
+ghost use Rattle.std.specs.Prelude.{◌^◌, ◌≡◌, ℕ, ◌+◌, ◌-◌, ◌<◌, ◌≤◌, false, length, slice_index, slice_set, Contains};
 ghost use Rattle.bucket_math.specs.Words.{greatest_word};
 ghost use Rattle.snapshot_scan.specs.ChangedItems.{Notes, ListsChanges};
 ghost use Rattle.snapshot_scan.specs.Exchange.{Exchanges, AreParts};
@@ -24,7 +24,7 @@ pub(crate) fn exchange(
     requires others { changed.now.all ≡ false → (k : ℕ) → k < length totals.old → ¬ (Contains changed.now.items k)
         → slice_index old.old k ≡ slice_index new.now k }
     requires part { (k : ℕ) → k < length totals.old → (slice_index old.old k ≤ slice_index totals.old k)
-        × (slice_index totals.old k ≤ 9007199254740992) }
+        × (slice_index totals.old k ≤ 2 ^ 53) }
     requires low { (k : ℕ) → k < length totals.old → (slice_index old.old k ≤ greatest_word)
         × (slice_index new.now k ≤ greatest_word) }
     ensures same { old.new ≡ new.now }
@@ -43,7 +43,7 @@ pub(crate) fn exchange(
 fn exchange_all(totals: &mut [u64], old: &mut [u64], new: &[u64], changed_totals: &mut ChangedItems)
     requires lengths { (length old.old ≡ length totals.old) × (length new.now ≡ length totals.old) }
     requires part { (k : ℕ) → k < length totals.old → (slice_index old.old k ≤ slice_index totals.old k)
-        × (slice_index totals.old k ≤ 9007199254740992) }
+        × (slice_index totals.old k ≤ 2 ^ 53) }
     requires low { (k : ℕ) → k < length totals.old → slice_index new.now k ≤ greatest_word }
     ensures same { old.new ≡ new.now }
     ensures sums { (k : ℕ) → k < length totals.old → slice_index totals.new k + slice_index old.old k ≡ slice_index totals.old
@@ -67,7 +67,7 @@ fn exchange_at(
     requires words { (j : ℕ) → Contains items.now j → j < length totals.old }
     requires others { (k : ℕ) → k < length totals.old → ¬ (Contains items.now k) → slice_index old.old k ≡ slice_index new.now k }
     requires part { (k : ℕ) → k < length totals.old → (slice_index old.old k ≤ slice_index totals.old k)
-        × (slice_index totals.old k ≤ 9007199254740992) }
+        × (slice_index totals.old k ≤ 2 ^ 53) }
     requires low { (k : ℕ) → k < length totals.old → (slice_index old.old k ≤ greatest_word)
         × (slice_index new.now k ≤ greatest_word) }
     ensures same { old.new ≡ new.now }
@@ -91,7 +91,7 @@ fn exchange_word(
 )
     requires inside { (item < length totals.old) × (item < length old.old) × (item < length new.now) }
     requires part { slice_index old.old item ≤ slice_index totals.old item }
-    requires room { slice_index totals.old item + slice_index new.now item < 18446744073709551616 }
+    requires room { slice_index totals.old item + slice_index new.now item < 2 ^ 64 }
     ensures old { old.new ≡ slice_set old.old item (slice_index new.now item) }
     ensures totals { totals.new ≡ slice_set totals.old item
         (slice_index totals.old item - slice_index old.old item + slice_index new.now item) }
@@ -108,7 +108,7 @@ fn exchange_word(
 fn exchange_sums(totals: &mut [u64], old: &[u64], new: &[u64], changed_totals: &mut ChangedItems)
     requires lengths { (length old.now ≡ length totals.old) × (length new.now ≡ length totals.old) }
     requires part { (k : ℕ) → k < length totals.old → (slice_index old.now k ≤ slice_index totals.old k)
-        × (slice_index totals.old k ≤ 9007199254740992) }
+        × (slice_index totals.old k ≤ 2 ^ 53) }
     requires low { (k : ℕ) → k < length totals.old → slice_index new.now k ≤ greatest_word }
     ensures sums { (k : ℕ) → k < length totals.old → slice_index totals.new k + slice_index old.now k ≡ slice_index totals.old
         k + slice_index new.now k }

@@ -1,6 +1,6 @@
 //! What a scan remembers of one segment. A buffer has at most 2,529
 //! words: twice the 1,248 of a row, the flag and 32 numbers.
-ghost use Rattle.std.specs.Prelude.{◌≡◌, ◌≢◌, ℕ, ◌+◌, ◌-◌, ◌<◌, ◌≤◌, ◌==◌, ◌⊎◌, true, false, cond, Contains};
+ghost use Rattle.std.specs.Prelude.{◌^◌, ◌≡◌, ◌≢◌, ℕ, ◌+◌, ◌-◌, ◌<◌, ◌≤◌, ◌==◌, ◌⊎◌, true, false, cond, Contains};
 ghost use Rattle.std.specs.Prelude.{length, slice_index, slice_set, IfOk};
 ghost use Rattle.bucket_math.specs.Words.{greatest_word};
 ghost use Rattle.ledger_core.specs.Ops.{width};
@@ -98,7 +98,7 @@ impl RememberedRow {
     )
         requires wide { IsWide (length totals.old) self.old }
         requires part { (k : ℕ) → k < length totals.old → (slice_index self.old.row.items k ≤ slice_index totals.old k)
-            × (slice_index totals.old k ≤ 9007199254740992) }
+            × (slice_index totals.old k ≤ 2 ^ 53) }
         ensures wide { IsWide (length totals.old) self.new }
         ensures version { version_of self.new ≡ cond (opened == found)
             (record { number = opened; row = words_of opened self.old }) (version_of self.old) }
@@ -119,7 +119,7 @@ impl RememberedRow {
     pub fn replace(&mut self, number: u64, totals: &mut [u64], changed_totals: &mut ChangedItems)
         requires wide { IsWide (length totals.old) self.old }
         requires part { (k : ℕ) → k < length totals.old → (slice_index self.old.row.items k ≤ slice_index totals.old k)
-            × (slice_index totals.old k ≤ 9007199254740992) }
+            × (slice_index totals.old k ≤ 2 ^ 53) }
         ensures wide { IsWide (length totals.old) self.new }
         ensures version { version_of self.new ≡ record { number = number; row = self.old.fresh.items } }
         ensures fresh { self.new.fresh.items ≡ self.old.fresh.items }
@@ -150,7 +150,7 @@ impl RememberedRow {
         requires long { length totals.old ≡ width C H G }
         requires wide { IsWide (width C H G) self.old }
         requires part { (k : ℕ) → k < width C H G → (slice_index self.old.row.items k ≤ slice_index totals.old k)
-            × (slice_index totals.old k ≤ 9007199254740992) }
+            × (slice_index totals.old k ≤ 2 ^ 53) }
         ensures wide { IsWide (width C H G) self.new }
         ensures version { version_of self.new ≡ record { number = number; row = row.now } }
         ensures totals { (k : ℕ) → k < width C H G → slice_index totals.new k + slice_index self.old.row.items k ≡ slice_index
@@ -177,7 +177,7 @@ impl RememberedRow {
         requires others { (k : ℕ) → k < width C H G → ¬ (Contains items.now k)
             → slice_index self.old.row.items k ≡ slice_index row.now k }
         requires part { (k : ℕ) → k < width C H G → (slice_index self.old.row.items k ≤ slice_index totals.old k)
-            × (slice_index totals.old k ≤ 9007199254740992) }
+            × (slice_index totals.old k ≤ 2 ^ 53) }
         ensures wide { IsWide (width C H G) self.new }
         ensures version { version_of self.new ≡ record { number = number; row = row.now } }
         ensures totals { (k : ℕ) → k < width C H G → slice_index totals.new k + slice_index self.old.row.items k ≡ slice_index
@@ -214,7 +214,7 @@ fn change_words<const C: usize, const H: usize, const G: usize>(
     requires words { (j : ℕ) → Contains items.now j → j < width C H G }
     requires low { (k : ℕ) → k < width C H G → slice_index old.old k ≤ greatest_word }
     requires part { (k : ℕ) → k < width C H G → (slice_index old.old k ≤ slice_index totals.old k)
-        × (slice_index totals.old k ≤ 9007199254740992) }
+        × (slice_index totals.old k ≤ 2 ^ 53) }
     ensures changed { (k : ℕ) → Contains items.now k → slice_index old.new k ≡ slice_index row.now k }
     ensures others { (k : ℕ) → ¬ (Contains items.now k) → slice_index old.new k ≡ slice_index old.old k }
     ensures low { (k : ℕ) → k < width C H G → slice_index old.new k ≤ greatest_word }
@@ -231,7 +231,7 @@ fn change_words<const C: usize, const H: usize, const G: usize>(
 fn change_word(totals: &mut [u64], old: &mut [u64], item: usize, word: u64)
     requires inside { (item < length totals.old) × (item < length old.old) }
     requires part { slice_index old.old item ≤ slice_index totals.old item }
-    requires room { slice_index totals.old item + word < 18446744073709551616 }
+    requires room { slice_index totals.old item + word < 2 ^ 64 }
     ensures old { old.new ≡ slice_set old.old item word }
     ensures totals { totals.new ≡ slice_set totals.old item (slice_index totals.old item - slice_index old.old item + word) }
 {

@@ -1,5 +1,5 @@
 //! What a scan gives its caller.
-ghost use Rattle.std.specs.Prelude.{◌≡◌, ◌+◌, ◌*◌, ◌<◌, ◌-ℤ◌, pos, length, take, drop, slice_index, replicate, sum, slice_set};
+ghost use Rattle.std.specs.Prelude.{◌^◌, ◌≡◌, ◌+◌, ◌*◌, ◌<◌, ◌-ℤ◌, pos, length, take, drop, slice_index, replicate, sum, slice_set};
 ghost use Rattle.std.specs.Prelude.{IfOk, All, ◌∷◌, []};
 ghost use Rattle.ledger_core.specs.Ops.{width};
 ghost use Rattle.ledger_core.specs.Legal.{IsLegal};
@@ -86,7 +86,7 @@ impl<const N: usize, const C: usize, const H: usize, const G: usize> Snapshot<N,
     pub fn counter(&self, slot: usize) -> u64
         requires { slot < C }
         ensures total { result ≡ slice_index self.now.totals slot }
-        ensures low { result < 9007199254740992 }
+        ensures low { result < 2 ^ 53 }
     {
         self.totals[slot]
     }
@@ -97,8 +97,8 @@ impl<const N: usize, const C: usize, const H: usize, const G: usize> Snapshot<N,
         ensures buckets { result.buckets ≡ take 25 (drop (C + 27 * slot) self.now.totals) }
         ensures sum { result.sum ≡ slice_index self.now.totals (C + 27 * slot + 25) }
         ensures count { result.count ≡ slice_index self.now.totals (C + 27 * slot + 26) }
-        ensures low { All (λ bucket. bucket < 9007199254740992) result.buckets × (result.sum < 9007199254740992)
-            × (result.count < 9007199254740992) }
+        ensures low { All (λ bucket. bucket < 2 ^ 53) result.buckets × (result.sum < 2 ^ 53)
+            × (result.count < 2 ^ 53) }
         ensures legal { IsLegal C H (slice_index self.now.totals) → result.count ≡ sum result.buckets }
     {
         let totals = self.totals.as_slice();
@@ -117,7 +117,7 @@ impl<const N: usize, const C: usize, const H: usize, const G: usize> Snapshot<N,
         requires { slot < G }
         ensures up { result.up ≡ slice_index self.now.totals (C + 27 * H + 2 * slot) }
         ensures down { result.down ≡ slice_index self.now.totals (C + 27 * H + 2 * slot + 1) }
-        ensures low { (result.up < 9007199254740992) × (result.down < 9007199254740992) }
+        ensures low { (result.up < 2 ^ 53) × (result.down < 2 ^ 53) }
     {
         let totals = self.totals.as_slice();
         let first = C + HIST_WORDS * H + GAUGE_WORDS * slot;
@@ -170,7 +170,7 @@ impl<const N: usize, const C: usize, const H: usize, const G: usize> Snapshot<N,
     /// takes no memory.
     pub fn set_total(&mut self, word: usize, total: u64)
         requires word { word < width C H G }
-        requires low { total < 9007199254740992 }
+        requires low { total < 2 ^ 53 }
         ensures { self.new ≡ record self.old { totals = slice_set self.old.totals word total } }
     {
         self.totals[word] = total;
