@@ -1,10 +1,9 @@
 """Wrong bodies. Each can be made still, of those that the gate tries and of those that stand aside in a folder `wrong-bodies/`. Those that
 stand aside were tried at the clauses and definitions that their crate has now, and at the definitions and types of the crates below that these
-cite: the file `tried.txt` beside them has the digest of all. After a trial of a crate `python3 -B checks/aside.py --tried CRATE` writes it."""
+cite: the file `tried.txt` beside them has the digest of all. `python3 -B checks/trial.py CRATE` tries those of a crate, and writes it."""
 import hashlib
 import pathlib
 import re
-import sys
 
 from started import check
 
@@ -155,26 +154,11 @@ def were_tried(root):
         was = told.read_text().strip() if told.is_file() else "none"
         check(
             was == digest(crate),
-            f"clauses or definitions of {crate.name} have changed since its wrong bodies were tried that stand aside. Try them, in a clone: "
-            f"mkdir -p crates/{crate.name}/must-fail; git mv crates/{crate.name}/wrong-bodies/*.edit crates/{crate.name}/must-fail; "
-            f"rt ci {crate.name}; where each is refused, write it down here: python3 -B checks/aside.py --tried {crate.name}",
+            f"clauses or definitions of {crate.name} have changed since its wrong bodies were tried that stand aside: "
+            f"python3 -B checks/trial.py {crate.name}",
         )
     return len(folders)
 
 
 def check_all(root):
     return can_be_made(root) + were_tried(root)
-
-
-def main():
-    if len(sys.argv) < 3 or sys.argv[1] != "--tried":
-        print("usage: aside.py --tried CRATE.., after the wrong bodies of these crates that stand aside were tried")
-        return 2
-    for name in sys.argv[2:]:
-        crate = ROOT / "crates" / name
-        (crate / "wrong-bodies/tried.txt").write_text(digest(crate) + "\n")
-    return 0
-
-
-if __name__ == "__main__":
-    sys.exit(main())
