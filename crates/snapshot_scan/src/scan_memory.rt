@@ -154,6 +154,7 @@ impl<const N: usize, const C: usize, const H: usize, const G: usize> ScanMemory<
 
     /// Remembers that the row of this segment is now `row`, under this number: its words take the place of the old ones in
     /// the sums.
+    #[inline(never)]
     pub fn remember(&mut self, place: usize, number: u64, row: &Row<C, H, G>)
         requires inside { place < N }
         ensures rows { rows_of self.new ≡ slice_set (rows_of self.old) place (record { number = number; row = row.now }) }
@@ -161,14 +162,9 @@ impl<const N: usize, const C: usize, const H: usize, const G: usize> ScanMemory<
             → slice_index (totals_in self.new) k + slice_index v.row k ≡ slice_index
             (totals_in self.old) k + slice_index row.now k }
     {
-        learn_row(
-            self.remembered.as_mut_slice(),
-            self.totals.as_mut_slice(),
-            &mut self.changed_totals,
-            place,
-            number,
-            row,
-        );
+        let remembered = self.remembered.as_mut_slice();
+        let totals = self.totals.as_mut_slice();
+        remembered[place].learn(number, row, totals, &mut self.changed_totals);
     }
 
     /// Remembers that the row of this segment is now `row`, under this number, where it differs from the remembered one at
@@ -184,14 +180,8 @@ impl<const N: usize, const C: usize, const H: usize, const G: usize> ScanMemory<
             → slice_index (totals_in self.new) k + slice_index v.row k ≡ slice_index
             (totals_in self.old) k + slice_index row.now k }
     {
-        change_row(
-            self.remembered.as_mut_slice(),
-            self.totals.as_mut_slice(),
-            place,
-            number,
-            row,
-            items,
-        );
+        let remembered = self.remembered.as_mut_slice();
+        remembered[place].change(number, row, items, self.totals.as_mut_slice());
     }
 }
 
@@ -205,52 +195,4 @@ fn blank_rows(alloc: Global, count: usize, row: usize) -> Result<Vec<RememberedR
         remembered.push(RememberedRow::new(alloc, row)?)?;
     }
     Ok(remembered)
-}
-
-// As `ScanMemory::remember`, over what is remembered of all segments and the sums.
-#[inline(never)]
-fn learn_row<const C: usize, const H: usize, const G: usize>(
-    remembered: &mut [RememberedRow],
-    totals: &mut [u64],
-    changed_totals: &mut ChangedItems,
-    place: usize,
-    number: u64,
-    row: &Row<C, H, G>,
-)
-    requires inside { (place < length remembered.old) × (length remembered.old ≤ 32) }
-    requires long { length totals.old ≡ width C H G }
-    requires wide { AreWide (width C H G) remembered.old }
-    requires totals { AreTotals (width C H G) remembered.old totals.old }
-    ensures wide { AreWide (width C H G) remembered.new }
-    ensures totals { AreTotals (width C H G) remembered.new totals.new }
-    ensures rows { map version_of remembered.new ≡ slice_set (map version_of remembered.old) place
-        (record { number = number; row = row.now }) }
-    ensures changed_totals { ListsChanges (width C H G) totals.old totals.new changed_totals.old changed_totals.new }
-{
-    remembered[place].learn(number, row, totals, changed_totals);
-}
-
-// As `ScanMemory::remember_at`.
-#[inline]
-fn change_row<const C: usize, const H: usize, const G: usize>(
-    remembered: &mut [RememberedRow],
-    totals: &mut [u64],
-    place: usize,
-    number: u64,
-    row: &Row<C, H, G>,
-    items: &[usize],
-)
-    requires inside { (place < length remembered.old) × (length remembered.old ≤ 32) }
-    requires long { length totals.old ≡ width C H G }
-    requires wide { AreWide (width C H G) remembered.old }
-    requires totals { AreTotals (width C H G) remembered.old totals.old }
-    requires words { (j : ℕ) → Contains items.now j → j < width C H G }
-    requires others { (g : RememberedRow) → get_elem? remembered.old place ≡ some g → (k : ℕ) → k < width C H G
-        → ¬ (Contains items.now k) → slice_index g.row.items k ≡ slice_index row.now k }
-    ensures wide { AreWide (width C H G) remembered.new }
-    ensures totals { AreTotals (width C H G) remembered.new totals.new }
-    ensures rows { map version_of remembered.new ≡ slice_set (map version_of remembered.old) place
-        (record { number = number; row = row.now }) }
-{
-    remembered[place].change(number, row, items, totals);
 }

@@ -1,51 +1,61 @@
-use Rattle.std.proofs.Common.{◌≡◌, ℕ, List, ◌++◌, length, map, take, drop, set, slice_index, sym, ap, ◌∙◌, subst, arith}
+use Rattle.std.proofs.Common.{◌≡◌, ℕ, get_or, arith, rules, sym, ap, ◌∙◌, subst, List, length}
+use Rattle.std.proofs.Math.Path.{transport}
+use mathlib.Core.Option.{some}
+use lib.ListN.{get_elem?}
 use Rattle.ledger_core.specs.Ops.{width}
-use Rattle.register_rule.specs.declared.view.Version.{Version}
+use Rattle.register_rule.proofs.Words.{there}
 use Rattle.snapshot_scan.specs.declared.remembered_row.RememberedRow.{RememberedRow}
-use Rattle.snapshot_scan.specs.RememberedRows.{version_of, AreWide, AreTotals}
-use Rattle.snapshot_scan.proofs.Words.{over}
-use Rattle.snapshot_scan.proofs.OwnRow.{own_sums}
+use Rattle.snapshot_scan.specs.RememberedRows.{AreWide, AreTotals}
 use Rattle.snapshot_scan.proofs.Moving.{moves_inside}
+use Rattle.snapshot_scan.proofs.OwnRow.{own_part, kept}
 use Rattle.snapshot_scan.proofs.scan_memory.ScanMemory.remember.Goals as goal
 
-pub returns-clause-sums : goal.returns-clause-sums
-returns-clause-sums g c = λ v at k lt.
-    let w : ℕ = width g.row.C g.row.H g.row.G in let old = c.args.self.now in let new = c.learn_row.new in
-    let i = c.args.place in
-    let v' : Version = record { number = c.args.number; row = c.args.row.now } in
-    let gs = c.as_mut_slice.ensures.value in let ts = c.as_mut_slice-2.ensures.value in let a = c.learn_row.auto.totals in
-    let n = c.as_mut_slice-2.ensures.len in
-    let written : take old.totals.len (new.totals ++ drop (length new.totals) old.totals.items) ≡ new.totals =
-    over new.totals old.totals.items old.totals.len (a ∙ ap (λ (l : List ℕ). length l) ts) (omega (arith, a)) in
-    let e = own_sums w old.remembered.items new.remembered old.totals.items new.totals i v v' old.sums c.learn_row.ensures.totals
-    (c.learn_row.ensures.rows ∙ ap (λ (l : List RememberedRow). set (map version_of l) i v') gs) at k lt in
-    let f = ap (λ (l : List ℕ). slice_index l k) written in omega (arith, e, f)
+pub learn-requires : goal.learn-requires
+learn-requires g c =
+    let w : ℕ = width g.row.C g.row.H g.row.G in let m = c.args.self.now in let i = c.args.place in
+    let slot = c.as_mut_slice-remembered in let sums = c.as_mut_slice-totals in
+    let gs = slot.result.now in let is = slot.ensures.value in let es = sums.ensures.value in
+    let old : RememberedRow = get_or gs i c.index-remembered-place.result in
+    let len = ap (λ (l : List RememberedRow). length l) is in let few = m.sizes.0 in let n = m.geometry.workers.1 in
+    let p = c.requires.inside in
+    let at : get_elem? gs i ≡ some old = there gs i c.index-remembered-place.result (omega (arith, few, p, len)) in
+    let wide = subst (AreWide w) (sym is) m.wide in (
+      search rules,
+      (
+        ap (λ (l : List ℕ). length l) es ∙ m.sizes.1,
+        (
+          wide i old at,
+          own_part w gs sums.result.now i old at (omega (arith, few, n, len)) wide
+              (transport (λ z. AreTotals w (sym is z) (sym es z)) m.sums),
+        ),
+      ),
+    )
 
 pub invariant_of-self : goal.invariant_of-self
 invariant_of-self g c =
-    let w : ℕ = width g.row.C g.row.H g.row.G in let old = c.args.self.now in let new = c.learn_row.new in
-    let gs = c.as_mut_slice.ensures.value in let ts = c.as_mut_slice-2.ensures.value in
-    let a = c.learn_row.auto.remembered in let b = c.learn_row.auto.totals in let m = c.as_mut_slice.ensures.len in
-    let n = c.as_mut_slice-2.ensures.len in
-    let remembered : take old.remembered.len (new.remembered ++ drop (length new.remembered) old.remembered.items)
-    ≡ new.remembered =
-    over new.remembered old.remembered.items old.remembered.len (a ∙ ap (λ (l : List RememberedRow). length l) gs)
-    (omega (arith, a, m)) in
-    let totals : take old.totals.len (new.totals ++ drop (length new.totals) old.totals.items) ≡ new.totals =
-    over new.totals old.totals.items old.totals.len (b ∙ ap (λ (l : List ℕ). length l) ts) (omega (arith, b, n)) in
+    let m = c.args.self.now in let slot = c.as_mut_slice-remembered in let sums = c.as_mut_slice-totals in let r = c.learn in
+    let len = ap (λ (l : List RememberedRow). length l) slot.ensures.value in let few = m.sizes.0 in let p = c.requires.inside in
+    let k = kept (width g.row.C g.row.H g.row.G) m.remembered.len m.totals.len c.args.place m.remembered.items slot.result.now
+    m.totals.items sums.result.now r.new.totals c.index-remembered-place.result r.new.self
+    (record { number = c.args.number; row = c.args.row.now }) slot.ensures.value slot.ensures.len sums.ensures.value
+    sums.ensures.len r.auto.totals (omega (arith, few, p, len)) m.wide m.sums r.ensures.wide
+    r.ensures.version r.ensures.totals in
     record {
-      geometry = old.geometry;
-      sizes = (
-        ap (λ (l : List RememberedRow). length l) remembered ∙ (a ∙ (ap (λ (l : List RememberedRow). length l) gs ∙ old.sizes.0)),
-        ap (λ (l : List ℕ). length l) totals ∙ (b ∙ (ap (λ (l : List ℕ). length l) ts ∙ old.sizes.1)),
-        old.sizes.2,
-        old.sizes.3,
-        old.sizes.4,
-      );
-      wide = subst (AreWide w) (sym remembered) c.learn_row.ensures.wide;
-      sums = subst (λ (l : List RememberedRow). AreTotals w l
-          (take old.totals.len (new.totals ++ drop (length new.totals) old.totals.items))) (sym remembered)
-          (subst (AreTotals w new.remembered) (sym totals) c.learn_row.ensures.totals);
-      listed = moves_inside w c.as_mut_slice-2.result.now new.totals old.changed_totals new.changed_totals old.listed
-          c.learn_row.ensures.changed_totals;
+      geometry = m.geometry;
+      sizes = (k.few ∙ m.sizes.0, k.long ∙ m.sizes.1, m.sizes.2, m.sizes.3, m.sizes.4);
+      wide = k.wide;
+      sums = k.totals;
+      listed = moves_inside (width g.row.C g.row.H g.row.G) sums.result.now r.new.totals m.changed_totals r.new.changed_totals m.listed
+          r.ensures.changed_totals;
     }
+
+pub returns : goal.returns
+returns g c =
+    let m = c.args.self.now in let slot = c.as_mut_slice-remembered in let sums = c.as_mut_slice-totals in let r = c.learn in
+    let len = ap (λ (l : List RememberedRow). length l) slot.ensures.value in let few = m.sizes.0 in let p = c.requires.inside in
+    let k = kept (width g.row.C g.row.H g.row.G) m.remembered.len m.totals.len c.args.place m.remembered.items slot.result.now
+    m.totals.items sums.result.now r.new.totals c.index-remembered-place.result r.new.self
+    (record { number = c.args.number; row = c.args.row.now }) slot.ensures.value slot.ensures.len sums.ensures.value
+    sums.ensures.len r.auto.totals (omega (arith, few, p, len)) m.wide m.sums r.ensures.wide
+    r.ensures.version r.ensures.totals in
+    record { rows = k.versions; sums = k.words }

@@ -1,49 +1,67 @@
-use Rattle.std.proofs.Common.{◌≡◌, ℕ, List, ◌++◌, length, map, take, drop, set, slice_index, sym, ap, ◌∙◌, subst, arith, rules}
+use Rattle.std.proofs.Common.{◌≡◌, ℕ, get_or, arith, rules, sym, ap, ◌∙◌, subst, List, length}
+use Rattle.std.proofs.Math.Path.{transport}
+use mathlib.Core.Option.{some}
 use lib.ListN.{get_elem?}
 use Rattle.ledger_core.specs.Ops.{width}
-use Rattle.register_rule.specs.declared.view.Version.{Version}
+use Rattle.register_rule.proofs.Words.{there}
 use Rattle.snapshot_scan.specs.declared.remembered_row.RememberedRow.{RememberedRow}
-use Rattle.snapshot_scan.specs.RememberedRows.{version_of, AreWide, sum_rows}
-use Rattle.snapshot_scan.proofs.Words.{over, at_map}
-use Rattle.snapshot_scan.proofs.OwnRow.{own_sums}
+use Rattle.snapshot_scan.specs.RememberedRows.{AreWide, AreTotals, version_of}
+use Rattle.snapshot_scan.proofs.Words.{at_map}
+use Rattle.snapshot_scan.proofs.OwnRow.{own_part, kept}
 use Rattle.snapshot_scan.proofs.scan_memory.ScanMemory.remember_at.Goals as goal
 
-pub returns-clause-sums : goal.returns-clause-sums
-returns-clause-sums g c = λ v at k lt.
-    let w : ℕ = width g.row.C g.row.H g.row.G in let old = c.args.self.now in let new = c.change_row.new in
-    let i = c.args.place in
-    let v' : Version = record { number = c.args.number; row = c.args.row.now } in
-    let gs = c.as_mut_slice.ensures.value in let ts = c.as_mut_slice-2.ensures.value in let a = c.change_row.auto.totals in
-    let n = c.as_mut_slice-2.ensures.len in
-    let written : take old.totals.len (new.totals ++ drop (length new.totals) old.totals.items) ≡ new.totals =
-    over new.totals old.totals.items old.totals.len (a ∙ ap (λ (l : List ℕ). length l) ts) (omega (arith, a)) in
-    let e = own_sums w old.remembered.items new.remembered old.totals.items new.totals i v v' old.sums c.change_row.ensures.totals
-    (c.change_row.ensures.rows ∙ ap (λ (l : List RememberedRow). set (map version_of l) i v') gs) at k lt in
-    let f = ap (λ (l : List ℕ). slice_index l k) written in omega (arith, e, f)
-
-pub change_row-requires : goal.change_row-requires
-change_row-requires g c =
+pub change-requires : goal.change-requires
+change-requires g c =
     let w : ℕ = width g.row.C g.row.H g.row.G in let m = c.args.self.now in let i = c.args.place in
-    let gs = c.as_mut_slice.ensures.value in let ts = c.as_mut_slice-2.ensures.value in
-    let few = m.sizes.0 in let n = m.geometry.workers.1 in let p = c.requires.inside in
-    let l = ap (λ (x : List RememberedRow). length x) gs in (
+    let slot = c.as_mut_slice-remembered in let sums = c.as_mut_slice in
+    let gs = slot.result.now in let is = slot.ensures.value in let es = sums.ensures.value in
+    let old : RememberedRow = get_or gs i c.index-remembered-place.result in
+    let len = ap (λ (l : List RememberedRow). length l) is in let few = m.sizes.0 in let n = m.geometry.workers.1 in
+    let p = c.requires.inside in
+    let at : get_elem? gs i ≡ some old = there gs i c.index-remembered-place.result (omega (arith, few, p, len)) in
+    let wide = subst (AreWide w) (sym is) m.wide in (
       search rules,
       (
-        (omega (arith, few, p, l), omega (arith, few, n, l)),
+        ap (λ (l : List ℕ). length l) es ∙ m.sizes.1,
         (
-          ap (λ (x : List ℕ). length x) ts ∙ m.sizes.1,
+          wide i old at,
           (
-            subst (AreWide w) (sym gs) m.wide,
+            c.requires.words,
             (
-              λ k lt. ap (λ (x : List ℕ). slice_index x k) ts
-                  ∙ (m.sums k lt ∙ ap (λ (x : List RememberedRow). sum_rows k x) (sym gs)),
-              (
-                c.requires.words,
-                λ y at. c.requires.others (version_of y)
-                    (at_map version_of m.remembered.items i y (ap (λ (x : List RememberedRow). get_elem? x i) (sym gs) ∙ at)),
-              ),
+              c.requires.others (version_of old)
+                  (at_map version_of m.remembered.items i old (ap (λ (l : List RememberedRow). get_elem? l i) (sym is) ∙ at)),
+              own_part w gs sums.result.now i old at (omega (arith, few, n, len)) wide
+                  (transport (λ z. AreTotals w (sym is z) (sym es z)) m.sums),
             ),
           ),
         ),
       ),
     )
+
+pub invariant_of-self : goal.invariant_of-self
+invariant_of-self g c =
+    let m = c.args.self.now in let slot = c.as_mut_slice-remembered in let sums = c.as_mut_slice in let r = c.change in
+    let len = ap (λ (l : List RememberedRow). length l) slot.ensures.value in let few = m.sizes.0 in let p = c.requires.inside in
+    let k = kept (width g.row.C g.row.H g.row.G) m.remembered.len m.totals.len c.args.place m.remembered.items slot.result.now
+    m.totals.items sums.result.now r.new.totals c.index-remembered-place.result r.new.self
+    (record { number = c.args.number; row = c.args.row.now }) slot.ensures.value slot.ensures.len sums.ensures.value
+    sums.ensures.len r.auto.totals (omega (arith, few, p, len)) m.wide m.sums r.ensures.wide
+    r.ensures.version r.ensures.totals in
+    record {
+      geometry = m.geometry;
+      sizes = (k.few ∙ m.sizes.0, k.long ∙ m.sizes.1, m.sizes.2, m.sizes.3, m.sizes.4);
+      wide = k.wide;
+      sums = k.totals;
+      listed = m.listed;
+    }
+
+pub returns : goal.returns
+returns g c =
+    let m = c.args.self.now in let slot = c.as_mut_slice-remembered in let sums = c.as_mut_slice in let r = c.change in
+    let len = ap (λ (l : List RememberedRow). length l) slot.ensures.value in let few = m.sizes.0 in let p = c.requires.inside in
+    let k = kept (width g.row.C g.row.H g.row.G) m.remembered.len m.totals.len c.args.place m.remembered.items slot.result.now
+    m.totals.items sums.result.now r.new.totals c.index-remembered-place.result r.new.self
+    (record { number = c.args.number; row = c.args.row.now }) slot.ensures.value slot.ensures.len sums.ensures.value
+    sums.ensures.len r.auto.totals (omega (arith, few, p, len)) m.wide m.sums r.ensures.wide
+    r.ensures.version r.ensures.totals in
+    record { rows = k.versions; sums = k.words }
