@@ -125,6 +125,12 @@ module _ (n : ℕ) (floor base first last : List ℕ) (tries : List Tried) (trie
   opened_so = ap (λ (ts : List Tried). c.opened ++ all_opened ts) tried.all
       ∙ ap (λ (f : List ℕ). c.opened ++ (pairs 0 f ++ all_opened tried.others)) tried.is_floor
 
+  loads_more : (opened : List ℕ) → (stood tries gs0 floor base c).opened ++ pairs 0 opened
+      ≡ c.opened ++ (pairs 0 floor ++ (all_opened tried.others ++ pairs 0 opened))
+  loads_more opened = ap (λ z. z ++ pairs 0 opened) opened_so
+      ∙ (append_assoc c.opened (pairs 0 floor ++ all_opened tried.others) (pairs 0 opened)
+      ∙ ap (λ z. c.opened ++ z) (append_assoc (pairs 0 floor) (all_opened tried.others) (pairs 0 opened)))
+
   -- a later try is clean
   pub direct_later : (opened found totals : List ℕ) (gs : List RememberedRow) → length floor ≡ n → length opened ≡ n
       → ((q : ℕ) → q < n → IsLoaded q (stood tries gs0 floor base c) (slice_index opened q))
@@ -137,9 +143,7 @@ module _ (n : ℕ) (floor base first last : List ℕ) (tries : List Tried) (trie
     seen = refl;
     floor = floor;
     later = all_opened tried.others ++ pairs 0 opened;
-    opened = ap (λ z. z ++ pairs 0 opened) opened_so
-        ∙ (append_assoc c.opened (pairs 0 floor ++ all_opened tried.others) (pairs 0 opened)
-        ∙ ap (λ z. c.opened ++ z) (append_assoc (pairs 0 floor) (all_opened tried.others) (pairs 0 opened)));
+    opened = loads_more opened;
     all = wide;
     above = floor_below n c (stood tries gs0 floor base c) floor opened (all_opened tried.others) long told opened_so;
     seen_before = seen_below n (stood tries gs0 floor base c) opened long told;
@@ -168,9 +172,7 @@ module _ (n : ℕ) (floor base first last : List ℕ) (tries : List Tried) (trie
     seen = refl;
     floor = floor;
     later = all_opened tried.others ++ pairs 0 opened;
-    opened = ap (λ z. z ++ pairs 0 opened) opened_so
-        ∙ (append_assoc c.opened (pairs 0 floor ++ all_opened tried.others) (pairs 0 opened)
-        ∙ ap (λ z. c.opened ++ z) (append_assoc (pairs 0 floor) (all_opened tried.others) (pairs 0 opened)));
+    opened = loads_more opened;
     all = wide;
     above = above_below floor a.vector hit;
     seen_before = λ i x y p q. let lt = at_below a.vector i y q in let f = there floor i 0 (omega (arith, wide, long, lt)) in

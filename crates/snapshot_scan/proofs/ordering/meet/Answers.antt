@@ -27,51 +27,26 @@ part-requires g c =
       ),
     )
 
-pub returns-clause-alone : goal.returns-clause-alone
-returns-clause-alone g c =
+pub returns : goal.returns
+returns g c =
     let one = members_of c.args.one.now in let other = members_of c.args.other.now in let k : ℕ = c.args.who in
-    let joined = members_of c.join.new.bundle in
-    let left = stays k one other (members_of c.part-guest.result) joined c.requires.alone.0 c.requires.alone.1 c.requires.is
-    c.part-guest.ensures.one c.join.ensures.all c.tell-number.ensures.ruled.0.apart in
-    let gone = goes k one other (members_of c.part-guest.result) joined c.requires.alone.0 c.requires.alone.1 c.requires.is
-    c.part-guest.ensures.one c.join.ensures.all c.tell-number.ensures.ruled.0.apart in (
-      alone_still (members_of c.part.new.bundle) _
-          (c.part.ensures.others ∙ (ap (without (Reader k)) c.tell-number.ensures.same ∙ left)),
-      alone_still (members_of c.part.result) _ (c.part.ensures.one ∙ (ap (picked (Reader k)) c.tell-number.ensures.same ∙ gone)),
-    )
-
-pub returns-clause-recorded : goal.returns-clause-recorded
-returns-clause-recorded g c =
-    let one = members_of c.args.one.now in let other = members_of c.args.other.now in let k : ℕ = c.args.who in
-    let joined = members_of c.join.new.bundle in
-    let left = stays k one other (members_of c.part-guest.result) joined c.requires.alone.0 c.requires.alone.1 c.requires.is
-    c.part-guest.ensures.one c.join.ensures.all c.tell-number.ensures.ruled.0.apart in
-    let gone = goes k one other (members_of c.part-guest.result) joined c.requires.alone.0 c.requires.alone.1 c.requires.is
-    c.part-guest.ensures.one c.join.ensures.all c.tell-number.ensures.ruled.0.apart in (
-      ap (λ (l : List Member). (first_of l).scan.recorded)
-          (c.part.ensures.others ∙ (ap (without (Reader k)) c.tell-number.ensures.same ∙ left)),
-      ap (λ (l : List Member). (first_of l).scan.recorded)
-          (c.part.ensures.one ∙ (ap (picked (Reader k)) c.tell-number.ensures.same ∙ gone)),
-    )
-
-pub returns-clause-met : goal.returns-clause-met
-returns-clause-met g c =
-    let one = members_of c.args.one.now in let other = members_of c.args.other.now in let k : ℕ = c.args.who in
-    let joined = members_of c.join.new.bundle in
-    let left = stays k one other (members_of c.part-guest.result) joined c.requires.alone.0 c.requires.alone.1 c.requires.is
-    c.part-guest.ensures.one c.join.ensures.all c.tell-number.ensures.ruled.0.apart in
-    let gone = goes k one other (members_of c.part-guest.result) joined c.requires.alone.0 c.requires.alone.1 c.requires.is
-    c.part-guest.ensures.one c.join.ensures.all c.tell-number.ensures.ruled.0.apart in
-    (λ z. (c.part.ensures.others ∙ (ap (without (Reader k)) c.tell-number.ensures.same ∙ left)) z ++ (c.part.ensures.one
-    ∙ (ap (picked (Reader k)) c.tell-number.ensures.same ∙ gone)) z)
-    ∙ sym (λ z. met (c.requires.alone.0 z ++ c.requires.alone.1 z))
-
-pub returns-clause-comparable : goal.returns-clause-comparable
-returns-clause-comparable g c = λ x y p q at at'.
-    let one = members_of c.args.one.now in let other = members_of c.args.other.now in let k : ℕ = c.args.who in
-    let joined = members_of c.join.new.bundle in
-    let pair = both k one other (members_of c.part-guest.result) joined c.requires.alone.0 c.requires.alone.1 c.requires.is
-    c.part-guest.ensures.one c.join.ensures.all c.tell-number.ensures.ruled.0.apart in
-    c.tell-number.ensures.ruled.2.recorded x y
-    (host k (first_of one) (first_of other) c.requires.is, (0, ap (λ (l : List Member). get_elem? l 0) pair), (p, at))
-    (guest k (first_of one) (first_of other) c.requires.is, (1, ap (λ (l : List Member). get_elem? l 1) pair), (q, at'))
+    let joined = members_of c.join.new.bundle in let from = c.part-guest.ensures.one in let all = c.join.ensures.all in
+    let apart = c.tell-number.ensures.ruled.0.apart in let alone = c.requires.alone in let is = c.requires.is in
+    let guests = members_of c.part-guest.result in
+    let pair = both k one other guests joined alone.0 alone.1 is from all apart in
+    let left = c.part.ensures.others ∙ (ap (without (Reader k)) c.tell-number.ensures.same
+    ∙ stays k one other guests joined alone.0 alone.1 is from all apart) in
+    let gone = c.part.ensures.one ∙ (ap (picked (Reader k)) c.tell-number.ensures.same
+    ∙ goes k one other guests joined alone.0 alone.1 is from all apart) in
+    record {
+      table = search rules;
+      alone = (alone_still (members_of c.part.new.bundle) _ left, alone_still (members_of c.part.result) _ gone);
+      recorded = (
+        ap (λ (l : List Member). (first_of l).scan.recorded) left,
+        ap (λ (l : List Member). (first_of l).scan.recorded) gone,
+      );
+      met = (λ z. left z ++ gone z) ∙ sym (λ z. met (alone.0 z ++ alone.1 z));
+      comparable = λ x y p q at at'. c.tell-number.ensures.ruled.2.recorded x y
+          (host k (first_of one) (first_of other) is, (0, ap (λ (l : List Member). get_elem? l 0) pair), (p, at))
+          (guest k (first_of one) (first_of other) is, (1, ap (λ (l : List Member). get_elem? l 1) pair), (q, at'));
+    }
