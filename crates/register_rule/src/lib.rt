@@ -29,6 +29,7 @@ pub use board_fault::BoardFault;
 pub use load::Load;
 pub use scan_steps::ScanSeat;
 pub use seats::{Bundle, ReadSeat, WorkSeat};
+pub use table_steps::load_as;
 pub use view::{
     Answer, Asked, Look, Member, PublishEntry, ScanInProgress, ScanLog, SeatView, Version, Who,
     Work,

@@ -18,7 +18,7 @@ use crate::board::{Board, Key, Law};
 use crate::load::Load;
 use crate::seats::{Bundle, WorkSeat};
 use crate::table_steps::{Both, load_as, split_as, store_as};
-use crate::view::Who;
+use crate::view::{SeatView, Who};
 use ledger_core::Op;
 use segment_layout::{Part, buffer_words, next_buffer};
 use std::marker::Brand;
@@ -80,7 +80,7 @@ impl<const N: usize, const C: usize, const H: usize, const G: usize> Board<N, C,
         ensures told { LoadTells (width C H G) what (members_of bundle.old) result }
     {
         let at = self.word_of_load(what);
-        load_as::<Load, Key, Brand, Law<N, C, H, G>>(
+        load_as::<Load, Key, SeatView, Brand, Law<N, C, H, G>>(
             &self.table.shared,
             &mut bundle.seat,
             at,
@@ -173,7 +173,7 @@ impl<const N: usize, const C: usize, const H: usize, const G: usize> Board<N, C,
         ensures ruled { AreRuledAt N (width C H G) (sum_ops C H) (Accepts C H G) place (members_of bundle.old) result }
     {
         let at = self.word_of_number(place);
-        load_as::<usize, Key, Brand, Law<N, C, H, G>>(
+        load_as::<usize, Key, SeatView, Brand, Law<N, C, H, G>>(
             &self.table.shared,
             &mut bundle.seat,
             at,

@@ -16,11 +16,11 @@ ghost use Rattle.register_rule.specs.Members.{group, met};
 use crate::view::SeatView;
 use atomic_table::{Join, Play, Seat, Shared, Split, TableRule};
 
-/// A load of the table's word `word` by this seat.
+/// A load of the table's word `word` by this seat, of any view.
 #[inline]
-pub(crate) fn load_as<X, K, J: Play<(), SeatView>, P: TableRule<(), SeatView, K>>(
-    shared: &Shared<(), SeatView, K, P>,
-    seat: &mut Seat<(), SeatView>,
+pub fn load_as<X, K, V, J: Play<(), V>, P: TableRule<(), V, K>>(
+    shared: &Shared<(), V, K, P>,
+    seat: &mut Seat<(), V>,
     word: usize,
     _about: &X,
 ) -> u64

@@ -10,11 +10,12 @@ ghost use Rattle.register_rule.specs.Members.{newest};
 
 use crate::contended::Contended;
 use crate::plain_fault::PlainFault;
-use crate::plain_table::{NoLaw, Recordings, load_as};
+use crate::plain_table::{NoLaw, Recordings};
 use crate::snapshot::Snapshot;
 use crate::source::Source;
 use atomic_table::{Seat, Table};
 use ledger_core::{Op, Row};
+use register_rule::load_as;
 use std::alloc::{AllocError, Global};
 use std::marker::Brand;
 
@@ -107,7 +108,7 @@ impl<const N: usize, const C: usize, const H: usize, const G: usize> PlainSource
         ensures same { (row_of self.new ≡ row_of self.old) × (count_of self.new ≡ count_of self.old) }
     {
         out.set_row(self.count, &self.row);
-        let _ = load_as::<Snapshot<N, C, H, G>, Brand, NoLaw>(
+        let _ = load_as::<Snapshot<N, C, H, G>, (), Recordings, Brand, NoLaw>(
             &self.table.shared,
             &mut self.seat,
             0,
