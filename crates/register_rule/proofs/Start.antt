@@ -48,29 +48,21 @@ readers_in_order n w = record { none = λ _. refl; more = λ _ _. refl; names = 
 
 module _ {f : ℕ → Member} {from : (i k : ℕ) → List Member} (order : InOrder f from) where
   -- each of them is one of these
-  from_order : (i k q : ℕ) (m : Member) → get_elem? (from i k) q ≡ some m → (h : ℕ) × (h < i + k) × (f h ≡ m)
+  from_order : (i k q : ℕ) (m : Member) → get_elem? (from i k) q ≡ some m → (h : ℕ) × (i ≤ h) × (h < i + k) × (f h ≡ m)
   from_order i zero q m e = absurd (some-ne-none m (sym (ap (λ (l : List Member). get_elem? l q) (sym (order.none i)) ∙ e)))
   from_order i (suc k) zero m e =
-      (i, omega arith, some-injective (f i) m (ap (λ (l : List Member). get_elem? l 0) (sym (order.more i k)) ∙ e))
+      (i, omega arith, omega arith, some-injective (f i) m (ap (λ (l : List Member). get_elem? l 0) (sym (order.more i k)) ∙ e))
   from_order i (suc k) (suc q) m e = let t =
-      from_order (i + 1) k q m (ap (λ (l : List Member). get_elem? l (suc q)) (sym (order.more i k)) ∙ e) in let t1 = t.1 in
-      (t.0, omega arith, t.2)
+      from_order (i + 1) k q m (ap (λ (l : List Member). get_elem? l (suc q)) (sym (order.more i k)) ∙ e) in
+      let low = t.1 in let high = t.2 in (t.0, omega arith, omega arith, t.3)
 
   -- and no two of them have one name
-  from_apart : (i k q : ℕ) (m : Member) → get_elem? (from i k) q ≡ some m → (h : ℕ) × (i ≤ h) × (f h ≡ m)
-  from_apart i zero q m e = absurd (some-ne-none m (sym (ap (λ (l : List Member). get_elem? l q) (sym (order.none i)) ∙ e)))
-  from_apart i (suc k) zero m e =
-      (i, omega arith, some-injective (f i) m (ap (λ (l : List Member). get_elem? l 0) (sym (order.more i k)) ∙ e))
-  from_apart i (suc k) (suc q) m e = let t =
-      from_apart (i + 1) k q m (ap (λ (l : List Member). get_elem? l (suc q)) (sym (order.more i k)) ∙ e) in let t1 = t.1 in
-      (t.0, omega arith, t.2)
-
   order_apart : (i k : ℕ) → AreApart (from i k)
   order_apart i zero = subst AreApart (sym (order.none i)) tt
   order_apart i (suc k) = subst AreApart (sym (order.more i k)) (
-    λ q o e same. let t = from_apart (i + 1) k q o e in let t1 = t.1 in
+    λ q o e same. let t = from_order (i + 1) k q o e in let t1 = t.1 in
         let z : (i == t.0) ≡ true = sym (order.names i t.0)
-        ∙ (ap (λ (x : Who). same_who (f i).who x) (ap (λ (x : Member). x.who) t.2 ∙ same)
+        ∙ (ap (λ (x : Who). same_who (f i).who x) (ap (λ (x : Member). x.who) t.3 ∙ same)
         ∙ (order.names i i ∙ eq-eqb i i refl)) in
         let y : i ≡ t.0 = eqb-true i t.0 z in absurd (omega (arith, y)),
     order_apart (i + 1) k,
@@ -133,9 +125,9 @@ module _ (n w b : ℕ) (adds : List Op → ℕ → ℕ) (accepts : (ℕ → ℕ)
   one : (p : ℕ) (m : Member) → get_elem? (workers_from n w b 0 n ++ readers_from n w 0 readers) p ≡ some m → IsFirst m
   one p m e = ⊎_elim
       (λ (t : get_elem? (workers_from n w b 0 n) p ≡ some m). let f = from_order (workers_in_order n w b) 0 n p m t in
-      let f1 = f.1 in subst IsFirst f.2 (worker_is f.0 (omega arith)))
+      let below = f.2 in subst IsFirst f.3 (worker_is f.0 (omega arith)))
       (λ (t : (q : ℕ) × (get_elem? (readers_from n w 0 readers) q ≡ some m) × (p ≡ length (workers_from n w b 0 n) + q)). let f =
-      from_order (readers_in_order n w) 0 readers t.0 m t.1 in subst IsFirst f.2 (reader_is f.0))
+      from_order (readers_in_order n w) 0 readers t.0 m t.1 in subst IsFirst f.3 (reader_is f.0))
       (from_both _ _ p m e)
 
   each : (j : ℕ) (v : SeatView) → get_elem? (everyone n w b readers ∷ []) j ≡ some v → (p : ℕ) (m : Member)
@@ -148,7 +140,7 @@ module _ (n w b : ℕ) (adds : List Op → ℕ → ℕ) (accepts : (ℕ → ℕ)
       → get_elem? (readers_from n w 0 readers) q ≡ some o → o.who ≢ m.who
   cross p q m o em eo same =
       let x = from_order (workers_in_order n w b) 0 n p m em in let y = from_order (readers_in_order n w) 0 readers q o eo in
-      let e : Reader y.0 ≡ Worker x.0 = ap (λ (z : Member). z.who) y.2 ∙ (same ∙ sym (ap (λ (z : Member). z.who) x.2)) in
+      let e : Reader y.0 ≡ Worker x.0 = ap (λ (z : Member). z.who) y.3 ∙ (same ∙ sym (ap (λ (z : Member). z.who) x.3)) in
       let f : false ≡ true = ap (λ (z : Who). same_who (Worker x.0) z) e ∙ eq-eqb x.0 x.0 refl in
       absurd (let g : false ≡ true = f in cc)
 

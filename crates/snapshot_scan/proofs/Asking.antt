@@ -90,44 +90,28 @@ looks_same c e looks = λ z. record c {
   trying = record c.trying { looks = sym looks z; due = rest c.trying.due; asks = [] };
 }
 
+-- the same, where it is told whether the worker lends
+asks_so : (n w i s again : ℕ) (words more : List ℕ) (c : ScanLog) (lends : Bool) → c.trying.due ≡ i ∷ more → c.trying.looks ≡ []
+    → is_lender n w again c.trying.floor (begun i s words) ≡ lends
+    → after_end_ask n w i again (read_all w i s w words (after_ask i s c))
+    ≡ cond lends (answered (lent_in n w words) (asked_too (asked_of again (begun i s words)) c))
+    (given_up_if_spent n (refused (asked_of again (begun i s words)) c))
+asks_so n w i s again words more c lends due looks so =
+    let e = asked_of again (begun i s words) in
+    asks_view n w i s again words more c due looks
+    ∙ (λ z. cond (so z) (answered (lent_in n w words) (asked_too e c)) (given_up_if_spent n (looks_same c e looks z)))
+
 pub view_refuses : (n w i s again : ℕ) (words more : List ℕ) (c : ScanLog) → c.trying.due ≡ i ∷ more → c.trying.looks ≡ []
     → is_lender n w again c.trying.floor (begun i s words) ≡ false
     → after_end_ask n w i again (read_all w i s w words (after_ask i s c)) ≡ given_up_if_spent n
     (refused (asked_of again (begun i s words)) c)
-view_refuses n w i s again words more c due looks not_lent =
-    let e = asked_of again (begun i s words) in
-    asks_view n w i s again words more c due looks
-    ∙ (ap (λ (b : Bool). cond b (answered (lent_in n w words) (asked_too e c))
-    (given_up_if_spent n (record c {
-      asked = c.asked ++ e ∷ [];
-      trying = record c.trying {
-        looks = [];
-        due = rest c.trying.due;
-        asks =
-            [];
-      };
-    })))
-    not_lent
-    ∙ ap (given_up_if_spent n) (looks_same c e looks))
+view_refuses n w i s again words more c = asks_so n w i s again words more c false
 
 pub view_lends : (n w i s again : ℕ) (words more : List ℕ) (c : ScanLog) → c.trying.due ≡ i ∷ more → c.trying.looks ≡ []
     → is_lender n w again c.trying.floor (begun i s words) ≡ true
     → after_end_ask n w i again (read_all w i s w words (after_ask i s c)) ≡ answered (lent_in n w words)
     (asked_too (asked_of again (begun i s words)) c)
-view_lends n w i s again words more c due looks hit =
-    let e = asked_of again (begun i s words) in
-    asks_view n w i s again words more c due looks
-    ∙ ap (λ (b : Bool). cond b (answered (lent_in n w words) (asked_too e c))
-    (given_up_if_spent n (record c {
-      asked = c.asked ++ e ∷ [];
-      trying = record c.trying {
-        looks = [];
-        due = rest c.trying.due;
-        asks =
-            [];
-      };
-    })))
-    hit
+view_lends n w i s again words more c = asks_so n w i s again words more c true
 
 pub at_end : {A : Type 0} (l : List A) (x : A) → get_elem? (l ++ x ∷ []) (length l) ≡ some x
 at_end [] x = refl

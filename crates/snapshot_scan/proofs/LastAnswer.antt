@@ -22,15 +22,17 @@ at_end (y ∷ l) x = at_end l x
 module _ (n c h g : ℕ) (few : n ≤ 32) (ms : List Member) (ruled : AreRuled n (width c h g) (sum_ops c h) (Accepts c h g) ms)
     (t : HasMember ms)
     (before : ScanLog) (a : Answer) (answered : IsAnswered n before (scan_of ms) a) where
-  sits : get_elem? ms 0 ≡ some t.0
+  pub sits : get_elem? ms 0 ≡ some t.0
   sits = ap (λ (l : List Member). get_elem? l 0) t.2
 
-  is_first : scan_of ms ≡ t.0.scan
+  pub is_first : scan_of ms ≡ t.0.scan
   is_first = ap scan_of t.2
 
-  records : get_elem? t.0.scan.recorded (length before.recorded) ≡ some a
-  records = ap (λ (l : List Answer). get_elem? l (length before.recorded)) (ap (λ (x : ScanLog). x.recorded) (sym is_first)
-      ∙ answered.recorded) ∙ at_end before.recorded a
+  pub all_recorded : t.0.scan.recorded ≡ before.recorded ++ a ∷ []
+  all_recorded = ap (λ (x : ScanLog). x.recorded) (sym is_first) ∙ answered.recorded
+
+  pub records : get_elem? t.0.scan.recorded (length before.recorded) ≡ some a
+  records = ap (λ (l : List Answer). get_elem? l (length before.recorded)) all_recorded ∙ at_end before.recorded a
 
   pub ends_low : AreLow (width c h g) a.totals
   ends_low = totals_low n c h g few ms ruled 0 (length before.recorded) t.0 a sits records

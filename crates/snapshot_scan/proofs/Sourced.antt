@@ -27,7 +27,7 @@ use Rattle.snapshot_scan.specs.Contention.{IsContended}
 use Rattle.snapshot_scan.specs.declared.contended.Contended.{Contended}
 use Rattle.snapshot_scan.specs.Sources.{NothingFalls, Records}
 use Rattle.register_rule.specs.Members.{newest}
-use Rattle.snapshot_scan.proofs.LastAnswer.{at_end, last_failed}
+use Rattle.snapshot_scan.proofs.LastAnswer.{sits, is_first, all_recorded, records, last_failed}
 use Rattle.snapshot_scan.proofs.Totals.{numbers_long, sum_at, totals_legal}
 use Rattle.snapshot_scan.proofs.Words.{front_at}
 
@@ -91,33 +91,30 @@ beyond (x ∷ l) (suc i) le = beyond l i (omega (arith, le))
 module _ (n c h g : ℕ) (few : n ≤ 32) (ms : List Member) (ruled : AreRuled n (width c h g) (sum_ops c h) (Accepts c h g) ms)
     (t : HasMember ms)
     (before : ScanLog) (a : Answer) (answered : IsAnswered n before (scan_of ms) a) where
-  sits : get_elem? ms 0 ≡ some t.0
-  sits = ap (λ (l : List Member). get_elem? l 0) t.2
-
-  is_first : scan_of ms ≡ t.0.scan
-  is_first = ap scan_of t.2
+  own : get_elem? ms 0 ≡ some t.0
+  own = sits n c h g few ms ruled t before a answered
 
   all : t.0.scan.recorded ≡ before.recorded ++ a ∷ []
-  all = ap (λ (x : ScanLog). x.recorded) (sym is_first) ∙ answered.recorded
+  all = all_recorded n c h g few ms ruled t before a answered
 
   here : get_elem? t.0.scan.recorded (length before.recorded) ≡ some a
-  here = ap (λ (l : List Answer). get_elem? l (length before.recorded)) all ∙ at_end before.recorded a
+  here = records n c h g few ms ruled t before a answered
 
   a_long : length a.vector ≡ n
-  a_long = numbers_long n c h g few ms ruled 0 (length before.recorded) t.0 a sits here
+  a_long = numbers_long n c h g few ms ruled 0 (length before.recorded) t.0 a own here
 
   module _ (b : Answer) (q : ℕ) (there : get_elem? before.recorded q ≡ some b) where
     still : get_elem? t.0.scan.recorded q ≡ some b
     still = ap (λ (l : List Answer). get_elem? l q) all ∙ front_at before.recorded (a ∷ []) q b there
 
     b_long : length b.vector ≡ n
-    b_long = numbers_long n c h g few ms ruled 0 q t.0 b sits still
+    b_long = numbers_long n c h g few ms ruled 0 q t.0 b own still
 
     number_rises : (i : ℕ) → i < n → slice_index b.vector i ≤ slice_index a.vector i
     number_rises i lt =
-        let sound = ruled.scans 0 t.0 sits in
+        let sound = ruled.scans 0 t.0 own in
         let below : Below b.vector t.0.scan.seen = (sound.recorded q b still).1 in
-        let seen : t.0.scan.seen ≡ upper before.seen a.vector = ap (λ (x : ScanLog). x.seen) (sym is_first) ∙ answered.seen in
+        let seen : t.0.scan.seen ≡ upper before.seen a.vector = ap (λ (x : ScanLog). x.seen) (sym (is_first n c h g few ms ruled t before a answered)) ∙ answered.seen in
         let x = elem_at b.vector i (omega (arith, b_long, lt)) in
         let y = elem_at a.vector i (omega (arith, a_long, lt)) in
         let long = sound.seen_wide in
@@ -146,8 +143,8 @@ module _ (n c h g : ℕ) (few : n ≤ 32) (ms : List Member) (ruled : AreRuled n
 
     total_rises : (k : ℕ) → k < width c h g → slice_index b.totals k ≤ slice_index a.totals k
     total_rises k lt =
-        let x = sum_at n c h g few ms ruled 0 q t.0 b sits still k lt in
-        let y = sum_at n c h g few ms ruled 0 (length before.recorded) t.0 a sits here k lt in
+        let x = sum_at n c h g few ms ruled 0 q t.0 b own still k lt in
+        let y = sum_at n c h g few ms ruled 0 (length before.recorded) t.0 a own here k lt in
         let le = sum_front (sum_ops c h) ruled.made 0 b.vector a.vector k (b_long ∙ sym a_long) number_rises_at in
         omega (arith, x, y, le)
 
@@ -158,7 +155,7 @@ module _ (n c h g : ℕ) (few : n ≤ 32) (ms : List Member) (ruled : AreRuled n
     whole = record {
       numbers = a_long;
       totals = wide;
-      legal = totals_legal n c h g few ms ruled 0 (length before.recorded) t.0 a sits here;
+      legal = totals_legal n c h g few ms ruled 0 (length before.recorded) t.0 a own here;
     };
     rises = λ b e. let at = newest_at before.recorded b e in
         record { numbers = number_rises b at.0 at.1; totals = total_rises b at.0 at.1 };
