@@ -7,8 +7,8 @@ use thiserror::Error;
 #[derive(Clone, Copy, Debug, PartialEq, Eq, Error)]
 #[error("worker {missing} is missing, or not at its place")]
 pub struct NotAll {
-    /// The least worker that is missing; where each has its place, the least that does not stand there, or how many there are to be where one
-    /// is too many.
+    /// The least worker that is missing; where each has its place, the least that does not stand there, or how many there are to
+    /// be where one is too many.
     pub missing: usize,
 }
 

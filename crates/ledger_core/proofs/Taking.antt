@@ -1,5 +1,6 @@
 -- Lists of operations that are told one more.
-use Rattle.std.proofs.Common.{◌≡◌, ℕ, ◌+◌, ◌*◌, ◌<◌, List, [], ◌∷◌, ◌++◌, Some, length, slice_get, get_or, set, arith, subst, length-set, refl, inl, inr}
+use Rattle.std.proofs.Common.{◌≡◌, ℕ, ◌+◌, ◌*◌, ◌<◌, List, [], ◌∷◌, ◌++◌, Some, length, slice_get, get_or, set, arith, subst}
+use Rattle.std.proofs.Common.{length-set, refl, inl, inr}
 use Rattle.std.proofs.Common.{Result, Ok, Err, IfErr}
 use Rattle.std.proofs.lemmas.List.Elements.{All-set, All-push}
 use Rattle.std.proofs.lemmas.List.Sums.{sum_by-set, sum_by_push, get_or-le-sum_by}

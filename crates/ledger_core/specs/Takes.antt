@@ -48,7 +48,8 @@ IsListFault room ops op Full = length ops ≡ room
 abbrev pub IsApartAt : (hint : ℕ) → List Op → Op → Type 0
 IsApartAt hint ops op = (o : Op) → slice_get ops hint ≡ Some o → ¬ (IsSameSlot o op)
 
--- why it does not take the operation by a table that has the place of its slot's: it is full only where nothing stands there to join
+-- why it does not take the operation by a table that has the place of its slot's: it is full only where nothing stands there to
+-- join
 abbrev pub IsJoinFault : (room hint : ℕ) → List Op → Op → TallyFault → Type 0
 IsJoinFault room hint ops op WrongRegistry = ⊥
 IsJoinFault room hint ops op Outside = ⊥

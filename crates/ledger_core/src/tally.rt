@@ -13,11 +13,12 @@ use crate::row::MAX_WORD;
 use crate::tally_fault::TallyFault;
 use std::marker::Model;
 
-/// What a thread has counted and not yet published: at most `K` operations, and no more than 65,536, on a row of `C` counters, `H` histograms
-/// and `G` gauges. A plain value of one thread: counting in it is plain additions, without memory, lock or shared words. No scrape
-/// sees what stands in it, until it is published.
+/// What a thread has counted and not yet published: at most `K` operations, and no more than 65,536, on a row of `C` counters,
+/// `H` histograms and `G` gauges. A plain value of one thread: counting in it is plain additions, without memory, lock or shared
+/// words. No scrape sees what stands in it, until it is published.
 ///
-/// Increments of one counter become one operation, and so do the raises of one gauge, and its falls; observations are listed each.
+/// Increments of one counter become one operation, and so do the raises of one gauge, and its falls; observations are listed
+/// each.
 #[derive(Drop)]
 pub struct Tally<const C: usize, const H: usize, const G: usize, const K: usize> {
     registry: u64,
@@ -172,8 +173,8 @@ impl<const C: usize, const H: usize, const G: usize, const K: usize> Tally<C, H,
         self.registry
     }
 
-    /// What would be published: one operation for each counter that was raised, one for each gauge that rose and one for each that fell,
-    /// and one for each observation. They would fit a row of zeros.
+    /// What would be published: one operation for each counter that was raised, one for each gauge that rose and one for each
+    /// that fell, and one for each observation. They would fit a row of zeros.
     #[inline]
     pub fn ops(&self) -> &[Op]
         ensures ops { result.now ≡ self.now.ops }

@@ -42,7 +42,14 @@ abbrev pub once_asked : (n x : ℕ) → Look → ScanLog → ScanLog
 once_asked n x l c = record c { asked = c.asked ++ asked_of x l ∷ [] }
 
 abbrev pub nothing_lent : (n x : ℕ) → Look → ScanLog → ScanLog
-nothing_lent n x l c = record c { asked = c.asked ++ asked_of x l ∷ []; trying = record c.trying { due = rest c.trying.due; asks = [] } }
+nothing_lent n x l c = record c {
+  asked = c.asked ++ asked_of x l ∷ [];
+  trying = record c.trying {
+    due = rest c.trying.due;
+    asks =
+        [];
+  };
+}
 
 module _ (n w : ℕ) (adds : List Op → ℕ → ℕ) (made : ℕ → List PublishEntry) (h : List ℕ) where
   -- nothing changes but the loads that opened a place, the workers that were asked, how many scans were given up, and the

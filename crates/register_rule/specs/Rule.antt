@@ -58,9 +58,9 @@ module _ (n w b : ℕ) (adds : List Op → ℕ → ℕ) (made : ℕ → List Pub
     pub role : IsRole words m m.who
     pub scan : IsSound n w adds made history m.scan
 
--- What holds of words and views before and after each atomic step of a board; what holds of recorded vectors in pairs is `AllCompare`,
--- and both together are `KeepsRule`, of Told. n workers, w words a row, buffers of b words. `adds` tells what a list
--- of operations adds to each word of a row, and `accepts` which lists a row of these words accepts.
+-- What holds of words and views before and after each atomic step of a board; what holds of recorded vectors in pairs is
+-- `AllCompare`, and both together are `KeepsRule`, of Told. n workers, w words a row, buffers of b words. `adds` tells what a
+-- list of operations adds to each word of a row, and `accepts` which lists a row of these words accepts.
 pub record Rule (n w b : ℕ) (adds : List Op → ℕ → ℕ) (accepts : (ℕ → ℕ) → List Op → Type 0) (s : State (Unit {0}) SeatView) : Type
     0 where
   -- what each worker has published, the seat of each member, and the workers that published, in order

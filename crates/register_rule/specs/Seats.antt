@@ -34,8 +34,8 @@ worker_of s = first_of (members_of (work_bundle s))
 abbrev pub index_of : WorkSeat → ℕ
 index_of s = s.worker
 
--- where the hidden buffer of the worker begins on a board of n workers, of rows of w words: that of the version after all that it has
--- published
+-- where the hidden buffer of the worker begins on a board of n workers, of rows of w words: that of the version after all that it
+-- has published
 abbrev pub start_of : (n w : ℕ) → WorkSeat → ℕ
 start_of n w s = index_of s * span (depth n w) + version_item (depth n w) (length (worker_of s).work.made + 1) 0
 

@@ -1,6 +1,6 @@
--- What lists of publishes add to each word of a row. `adds` tells what a list of operations adds to a word, and `accepts` which lists
--- a row of these words accepts. They are parameters, so that the rule is proved without a word of counters and buckets; the contracts
--- of the code give `sum_ops` and `Accepts` of ledger_core.
+-- What lists of publishes add to each word of a row. `adds` tells what a list of operations adds to a word, and `accepts` which
+-- lists a row of these words accepts. They are parameters, so that the rule is proved without a word of counters and buckets; the
+-- contracts of the code give `sum_ops` and `Accepts` of ledger_core.
 use Rattle.std.specs.Prelude.{ℕ, suc, ◌+◌, Option, Some, None, List, [], ◌∷◌, ◌++◌, take}
 use Rattle.ledger_core.specs.declared.op.Op.{Op}
 use Rattle.register_rule.specs.declared.view.PublishEntry.{PublishEntry}
@@ -12,8 +12,8 @@ module _ (adds : List Op → ℕ → ℕ) where
   word_after [] k = 0
   word_after (x ∷ xs) k = adds x.ops k + word_after xs k
 
-  -- the total of the word k at this vector: the sum of the rows of the workers from i on, at its versions; made i is what worker i
-  -- published
+  -- the total of the word k at this vector: the sum of the rows of the workers from i on, at its versions; made i is what worker
+  -- i published
   abbrev pub vector_total : (ℕ → List PublishEntry) → (i : ℕ) → List ℕ → (k : ℕ) → ℕ
   vector_total made i [] k = 0
   vector_total made i (s ∷ vector) k = word_after (take s (made i)) k + vector_total made (suc i) vector k

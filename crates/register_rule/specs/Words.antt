@@ -7,8 +7,8 @@ use Rattle.segment_layout.specs.declared.part.Item.TheVariants.{Row as RowItem, 
 use Rattle.segment_layout.specs.declared.part.Item.TheVariants.{Lent as LentItem}
 use Rattle.segment_layout.specs.Layout.{span, item_at, place}
 
--- in a segment the number stands at place 0, and the item k of the version s at this place; b is the length of a buffer. It is where
--- `in_buffer` of segment_layout puts the part that the item is: `IsPlaceOf` says so
+-- in a segment the number stands at place 0, and the item k of the version s at this place; b is the length of a buffer. It is
+-- where `in_buffer` of segment_layout puts the part that the item is: `IsPlaceOf` says so
 abbrev pub version_item : (b s k : ℕ) → ℕ
 version_item b s k = 1 + s % 2 * b + k
 

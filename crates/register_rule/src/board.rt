@@ -38,8 +38,8 @@ impl<const N: usize, const C: usize, const H: usize, const G: usize> TableRule<(
     ghost first = { λ key. everyone N (width C H G) (depth N (width C H G)) key.readers };
 }
 
-// Placeholders, for which `Brand` of std serves since it stands for nothing here: what a call tells, and how it splits a view, it picks by
-// itself in its proof (`table_steps.rt` tells how).
+// Placeholders, for which `Brand` of std serves since it stands for nothing here: what a call tells, and how it splits a view, it
+// picks by itself in its proof (`table_steps.rt` tells how).
 impl Play<(), SeatView> for Brand {
     ghost then = { λ _ _ _ _. Unit {0} };
 }
@@ -50,8 +50,8 @@ impl Split<SeatView> for Brand {
     ghost right = { λ v. v };
 }
 
-/// The words that all workers and readers share: `N` segments, 1 to 32, of rows of `C` counters, at most 256, `H`
-/// histograms, at most 32, and `G` gauges, at most 64. A row has `C + 27 * H + 2 * G` words of at most 2^48 - 1. Beside them is the hush word,
+/// The words that all workers and readers share: `N` segments, 1 to 32, of rows of `C` counters, at most 256, `H` histograms, at
+/// most 32, and `G` gauges, at most 64. A row has `C + 27 * H + 2 * G` words of at most 2^48 - 1. Beside them is the hush word,
 /// by which a scan asks the workers to rest ([`Board::hush`]).
 pub struct Board<const N: usize, const C: usize, const H: usize, const G: usize> {
     pub(crate) table: Table<(), SeatView, Key, Law<N, C, H, G>, Global>,

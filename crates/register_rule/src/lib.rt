@@ -7,8 +7,8 @@
 //! put the members of seats together and apart, and [`Board::tell`] is a load that only tells. No step is handed memory. What a
 //! seat knows is a [`SeatView`], which contracts see and no program makes.
 //!
-//! Beside the words that the rule speaks of a board has its hush word, by which a scan that failed asks workers to rest ([`Board::hush`]): a
-//! hint, of which no clause speaks.
+//! Beside the words that the rule speaks of a board has its hush word, by which a scan that failed asks workers to rest
+//! ([`Board::hush`]): a hint, of which no clause speaks.
 //!
 //! The algorithm is the unbounded single-writer snapshot of Afek, Attiya, Dolev, Gafni, Merritt and Shavit, "Atomic
 //! Snapshots of Shared Memory", J. ACM 40(4), 1993, section 3. Where each word stands is said in `segment_layout`.

@@ -1,7 +1,7 @@
 //! The loads that a scan makes, each one atomic step.
 
-/// A load of one word of the board for a scan. A place is that of a worker's segment, from 0; an item is a word of a buffer, from 0,
-/// as `segment_layout::item_at` counts them.
+/// A load of one word of the board for a scan. A place is that of a worker's segment, from 0; an item is a word of a buffer, from
+/// 0, as `segment_layout::item_at` counts them.
 #[derive(Clone, Copy)]
 pub enum Load {
     /// The opening load: the number of a segment, before its row is read.

@@ -60,8 +60,8 @@ impl<const N: usize, const C: usize, const H: usize, const G: usize> Board<N, C,
     /// The opening load of a place, that of a worker's segment, from 0: its number, which is at least each number found
     /// there before.
     ///
-    /// Where it is the next place of a try in which nothing is confirmed yet, and nobody is still to be asked, the try has it then. Where the row that
-    /// is remembered of this segment has this number, its words need not be read.
+    /// Where it is the next place of a try in which nothing is confirmed yet, and nobody is still to be asked, the try has it
+    /// then. Where the row that is remembered of this segment has this number, its words need not be read.
     #[inline]
     pub fn open<S: ScanSeat<N, C, H, G>>(&self, seat: &mut S, place: usize) -> u64
         requires of_board { MayScan self.now (S.bundle seat.old) }

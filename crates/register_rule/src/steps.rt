@@ -40,8 +40,8 @@ impl<const N: usize, const C: usize, const H: usize, const G: usize> Board<N, C,
         segment_layout::place_of(N, C, H, G, segment, Part::Number)
     }
 
-    // Where on the board an item of a version stands. An item is counted along its buffer already, so that no part has to be told from it,
-    // as `place_of` of segment_layout would.
+    // Where on the board an item of a version stands. An item is counted along its buffer already, so that no part has to be told
+    // from it, as `place_of` of segment_layout would.
     #[inline]
     fn word_of_item(&self, segment: usize, version: u64, item: usize) -> usize
         requires { (segment < N) × (item < depth N (width C H G)) }
@@ -88,7 +88,8 @@ impl<const N: usize, const C: usize, const H: usize, const G: usize> Board<N, C,
         )
     }
 
-    /// Where on the board the worker's own hidden buffer begins, for [`Board::fill_at`]. It stays there until the worker publishes.
+    /// Where on the board the worker's own hidden buffer begins, for [`Board::fill_at`]. It stays there until the worker
+    /// publishes.
     #[inline]
     pub fn hidden_start(&self, seat: &WorkSeat) -> usize
         requires of_board { IsWorkSeatOf self.now seat.now }
@@ -97,7 +98,8 @@ impl<const N: usize, const C: usize, const H: usize, const G: usize> Board<N, C,
         self.word_of_item(seat.worker, next_buffer(seat.number) as u64, 0)
     }
 
-    /// Stores a word into the worker's own hidden buffer, at the item `item` of it. `start` is what [`Board::hidden_start`] answers.
+    /// Stores a word into the worker's own hidden buffer, at the item `item` of it. `start` is what [`Board::hidden_start`]
+    /// answers.
     ///
     /// An item is counted along the buffer: `item_at` of segment_layout says where the row's words, the flag, the vector
     /// and the lent totals stand. A word of the row is at most 2^48 - 1.

@@ -1,13 +1,13 @@
-//! The atomic steps on the table's words, and the split of a seat: those of `atomic_table` with one more argument, `_about`, which only
-//! the proof reads; the compiled code drops it.
+//! The atomic steps on the table's words, and the split of a seat: those of `atomic_table` with one more argument, `_about`,
+//! which only the proof reads; the compiled code drops it.
 //!
-//! A *play* says how a step changes the view of the seat that makes it, a *split* which part of a view goes to which seat. Types name
-//! them. The calls of this crate name `Brand` for both, whose own ghosts are placeholders: each call picks its play or split in its
-//! `Invariants.antt`, as `ghosts-load_as` in proofs/board/Board/load, and may speak there of `_about`.
+//! A *play* says how a step changes the view of the seat that makes it, a *split* which part of a view goes to which seat. Types
+//! name them. The calls of this crate name `Brand` for both, whose own ghosts are placeholders: each call picks its play or split
+//! in its `Invariants.antt`, as `ghosts-load_as` in proofs/board/Board/load, and may speak there of `_about`.
 //!
-//! In the contracts, `step` is what the table notes of an access: the word, what was stored, and of slots nothing. `Allows` says that the
-//! rule holds after the step if it held before. A seat's `id` is its number at the table, not a board's. A view comes with the slots
-//! that its seat holds, `me.1`; the board uses none, so that list is empty.
+//! In the contracts, `step` is what the table notes of an access: the word, what was stored, and of slots nothing. `Allows` says
+//! that the rule holds after the step if it held before. A seat's `id` is its number at the table, not a board's. A view comes
+//! with the slots that its seat holds, `me.1`; the board uses none, so that list is empty.
 ghost use Rattle.std.specs.Prelude.{◌≡◌, ◌<◌, [], ◌++◌};
 ghost use mathlib.Core.Option.{none};
 ghost use Rattle.atomic_table.specs.Table.{step, Allows, Splits};

@@ -26,8 +26,8 @@ pub struct Look {
     pub place: usize,
     /// The number that the opening load found.
     pub number: u64,
-    /// The words of the buffer that this number shows, from the row's first word on in their order: as many as were read, or all of the row
-    /// that is remembered under this number.
+    /// The words of the buffer that this number shows, from the row's first word on in their order: as many as were read, or all
+    /// of the row that is remembered under this number.
     pub words: LinkedList<u64>,
     /// Whether a confirming load found the number again.
     pub sure: bool,

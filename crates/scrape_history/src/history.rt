@@ -14,11 +14,11 @@ use std::alloc::{AllocError, Global};
 use std::collections::VecDeque;
 use std::marker::Model;
 
-/// The scrapes that are kept, in order: the oldest whole, and each later one as its increases over the one before, so that it takes
-/// no more than what changed. The newest is kept whole too, to be shown, and to find the increases of the next.
+/// The scrapes that are kept, in order: the oldest whole, and each later one as its increases over the one before, so that it
+/// takes no more than what changed. The newest is kept whole too, to be shown, and to find the increases of the next.
 ///
-/// Contracts see it as its scrapes, each with how many changes were made before it, and as the room that it has. A *history of publishes*, of
-/// which other contracts speak, is something else: the order in which workers published, which nothing keeps.
+/// Contracts see it as its scrapes, each with how many changes were made before it, and as the room that it has. A *history of
+/// publishes*, of which other contracts speak, is something else: the order in which workers published, which nothing keeps.
 #[derive(Drop)]
 pub struct History<const N: usize, const C: usize, const H: usize, const G: usize> {
     pub(crate) first: Option<usize>,

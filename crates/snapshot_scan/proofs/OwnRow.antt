@@ -1,5 +1,6 @@
 -- One remembered row takes the place of another.
-use Rattle.std.proofs.Common.{[], ◌∷◌, ◌++◌, zero, suc, refl, ◌≡◌, ⊎_elim, ℕ, ◌+◌, ◌<◌, ◌≤◌, List, length, map, set, slice_index, sym}
+use Rattle.std.proofs.Common.{[], ◌∷◌, ◌++◌, zero, suc, refl, ◌≡◌, ⊎_elim, ℕ, ◌+◌, ◌<◌, ◌≤◌, List, length, map, set}
+use Rattle.std.proofs.Common.{slice_index, sym}
 use Rattle.std.proofs.Common.{take, drop, get_or, ap, subst, arith, ◌∙◌, length-set}
 use Rattle.std.proofs.Math.Path.{transport}
 use mathlib.Core.Option.{some, some-injective, some-ne-none}

@@ -114,7 +114,8 @@ module _ (n c h g : ℕ) (few : n ≤ 32) (ms : List Member) (ruled : AreRuled n
     number_rises i lt =
         let sound = ruled.scans 0 t.0 own in
         let below : Below b.vector t.0.scan.seen = (sound.recorded q b still).1 in
-        let seen : t.0.scan.seen ≡ upper before.seen a.vector = ap (λ (x : ScanLog). x.seen) (sym (is_first n c h g few ms ruled t before a answered)) ∙ answered.seen in
+        let seen : t.0.scan.seen ≡ upper before.seen a.vector = ap (λ (x : ScanLog). x.seen) (sym (is_first n c h g few ms ruled t
+        before a answered)) ∙ answered.seen in
         let x = elem_at b.vector i (omega (arith, b_long, lt)) in
         let y = elem_at a.vector i (omega (arith, a_long, lt)) in
         let long = sound.seen_wide in

@@ -69,7 +69,10 @@ pairs q (x ∷ xs) = (q, x) ∷ pairs (suc q) xs
 
 -- a try of c that has opened these
 abbrev pub opening : (opened : List ℕ) → List RememberedRow → ScanLog → ScanLog
-opening opened gs c = record c { opened = c.opened ++ pairs 0 opened; trying = record c.trying { looks = looks_of 0 opened [] gs } }
+opening opened gs c = record c {
+  opened = c.opened ++ pairs 0 opened;
+  trying = record c.trying { looks = looks_of 0 opened [] gs };
+}
 
 -- and confirmed those
 abbrev pub settling : (opened found : List ℕ) → List RememberedRow → ScanLog → ScanLog

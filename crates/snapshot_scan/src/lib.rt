@@ -2,9 +2,9 @@
 //!
 //! A [`Reader`] scans into a [`Snapshot`]: a vector of how often each worker has published, and the totals of all rows at that
 //! vector. A scan makes at most `N` + 2 tries; it ends direct, where a try met the same numbers twice, with the view that a
-//! worker lent, or with [`Contended`]. It takes no memory and waits for nobody; from its first failed try on it asks the workers to rest,
-//! unless it is the scan of an update. [`ScanMemory`] is what the scans of one seat work with: the rows that were confirmed last are
-//! remembered, so that a scan reads the words of those rows alone that moved.
+//! worker lent, or with [`Contended`]. It takes no memory and waits for nobody; from its first failed try on it asks the workers
+//! to rest, unless it is the scan of an update. [`ScanMemory`] is what the scans of one seat work with: the rows that were
+//! confirmed last are remembered, so that a scan reads the words of those rows alone that moved.
 //!
 //! A [`Source`] is what snapshots are taken of: a [`Scanner`], which is a board and a reader of it, or a [`PlainSource`], a
 //! row of one thread, to which lists of operations are applied or refused with a [`PlainFault`].

@@ -86,15 +86,15 @@ impl<const N: usize, const C: usize, const H: usize, const G: usize> Reader<N, C
         })
     }
 
-    /// A scan: all segments at one moment, written to `out`. It takes no memory and waits for nobody. Where its first try failed, the workers
-    /// are asked to rest ([`Board::hush`]).
+    /// A scan: all segments at one moment, written to `out`. It takes no memory and waits for nobody. Where its first try failed,
+    /// the workers are asked to rest ([`Board::hush`]).
     ///
     /// The vector of `out` is not below the first `N` numbers that the scan loads, nor below what the reader has seen before.
     /// After Ok `out` is the last entry of what the reader has recorded, and all segments at one moment. By the board's rule its
     /// vector is comparable with every one that any scan of this board records; this call tells so of the reader's own alone.
     ///
-    /// A worker that is lent to the reader cannot publish: the vector has its number, and the totals all that it has counted; and it stays
-    /// lent. A scan for which all workers are lent is always Ok.
+    /// A worker that is lent to the reader cannot publish: the vector has its number, and the totals all that it has counted; and
+    /// it stays lent. A scan for which all workers are lent is always Ok.
     ///
     /// # Errors
     ///

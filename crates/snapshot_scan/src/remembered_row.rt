@@ -86,8 +86,8 @@ impl RememberedRow {
         number
     }
 
-    /// The confirming load of the segment, which was opened at `opened`, found `found`. Where that is the same number, the
-    /// row is remembered, and its words take the place of the old ones in the totals. Where these change is listed in `changed_totals`.
+    /// The confirming load of the segment, which was opened at `opened`, found `found`. Where that is the same number, the row is
+    /// remembered, and its words take the place of the old ones in the totals. Where these change is listed in `changed_totals`.
     #[inline]
     pub fn settle(
         &mut self,

@@ -1,5 +1,6 @@
 //! The second collect of a try; where its rows are all remembered, four places in one turn.
-ghost use Rattle.std.specs.Prelude.{◌≡◌, ◌≢◌, ℕ, ◌+◌, ◌<◌, ◌≤◌, ◌==◌, ◌&&◌, ◌↔◌, Bool, true, false, cond, List, IsTrue, length, slice_index};
+ghost use Rattle.std.specs.Prelude.{◌≡◌, ◌≢◌, ℕ, ◌+◌, ◌<◌, ◌≤◌, ◌==◌, ◌&&◌, ◌↔◌, Bool, true, false, cond, List, IsTrue};
+ghost use Rattle.std.specs.Prelude.{length, slice_index};
 ghost use Rattle.std.specs.Prelude.{slice_set, MatchOption};
 ghost use Rattle.ledger_core.specs.Ops.{width};
 ghost use Rattle.segment_layout.specs.Layout.{IsGeometry};
@@ -54,8 +55,8 @@ fn note_moved(opened: &[u64], found: &mut [u64], place: usize, number: u64)
     found[place] = number;
 }
 
-/// Confirms so many places, from `from` on, where those before were found again, up to the first that has another number now, if there is
-/// one. Only then `found` is written.
+/// Confirms so many places, from `from` on, where those before were found again, up to the first that has another number now, if
+/// there is one. Only then `found` is written.
 #[inline(always)]
 fn confirm_places<
     S: ScanSeat<N, C, H, G>,
@@ -140,7 +141,8 @@ pub(crate) fn confirm_known<
     ensures table { table_of (S.bundle seat.new) ≡ table_of (S.bundle seat.old) }
     ensures ruled { IsRuled N C H G (S.bundle seat.new) }
     ensures view { members_of (S.bundle seat.new) ≡ with_scan
-        (ended N (width C H G) (settling opened.now (cond result opened.now found.new) remembered.now (scan_in (S.bundle seat.old))))
+        (ended N (width C H G) (settling opened.now (cond result opened.now found.new) remembered.now (scan_in (S.bundle
+        seat.old))))
         (members_of (S.bundle seat.old)) }
     ensures risen { (q : ℕ) → q < N → slice_index opened.now q ≤ slice_index (cond result opened.now found.new) q }
     ensures moved { result ≡ false → opened.now ≢ found.new }
@@ -162,7 +164,8 @@ pub(crate) fn confirm_known<
     true
 }
 
-/// The second collect of a try. It says whether each number was found again. Where the totals change is listed in `changed_totals`.
+/// The second collect of a try. It says whether each number was found again. Where the totals change is listed in
+/// `changed_totals`.
 #[inline(never)]
 fn confirm_and_settle<
     S: ScanSeat<N, C, H, G>,
@@ -231,7 +234,8 @@ pub(crate) fn confirm<
     ensures wide { AreWide (width C H G) remembered.new }
     ensures totals { AreTotals (width C H G) remembered.new totals.new }
     ensures view { members_of (S.bundle seat.new) ≡ with_scan
-        (ended N (width C H G) (settling opened.now (cond result opened.now found.new) remembered.new (scan_in (S.bundle seat.old))))
+        (ended N (width C H G) (settling opened.now (cond result opened.now found.new) remembered.new (scan_in (S.bundle
+        seat.old))))
         (members_of (S.bundle seat.old)) }
     ensures risen { (q : ℕ) → q < N → slice_index opened.now q ≤ slice_index (cond result opened.now found.new) q }
     ensures held { (q : ℕ) (g : RememberedRow) → get_elem? remembered.new q ≡ some g

@@ -1,5 +1,6 @@
 //! What a scan gives its caller.
-ghost use Rattle.std.specs.Prelude.{◌^◌, ◌≡◌, ◌+◌, ◌*◌, ◌<◌, ◌-ℤ◌, pos, length, take, drop, slice_index, replicate, sum, slice_set};
+ghost use Rattle.std.specs.Prelude.{◌^◌, ◌≡◌, ◌+◌, ◌*◌, ◌<◌, ◌-ℤ◌, pos, length, take, drop, slice_index, replicate, sum};
+ghost use Rattle.std.specs.Prelude.{slice_set};
 ghost use Rattle.std.specs.Prelude.{IfOk, All, ◌∷◌, []};
 ghost use Rattle.ledger_core.specs.Ops.{width};
 ghost use Rattle.ledger_core.specs.Legal.{IsLegal};
@@ -91,7 +92,8 @@ impl<const N: usize, const C: usize, const H: usize, const G: usize> Snapshot<N,
         self.totals[slot]
     }
 
-    /// The totals of a histogram: its 25 buckets, each with its own values alone, its sum and its count. Asks that the slot is below `H`.
+    /// The totals of a histogram: its 25 buckets, each with its own values alone, its sum and its count. Asks that the slot is
+    /// below `H`.
     pub fn hist(&self, slot: usize) -> HistTotals
         requires { slot < H }
         ensures buckets { result.buckets ≡ take 25 (drop (C + 27 * slot) self.now.totals) }
@@ -145,8 +147,9 @@ impl<const N: usize, const C: usize, const H: usize, const G: usize> Snapshot<N,
         self.set(&other.vector, &other.totals);
     }
 
-    /// Makes this the snapshot of other numbers and totals, as a [`Source`](crate::Source) of one's own does where it answers: how often
-    /// each of the `N` workers has published, and the totals of all words of a row, each below 2^53. It takes no memory.
+    /// Makes this the snapshot of other numbers and totals, as a [`Source`](crate::Source) of one's own does where it answers:
+    /// how often each of the `N` workers has published, and the totals of all words of a row, each below 2^53. It takes no
+    /// memory.
     pub fn set(&mut self, vector: &[u64], totals: &[u64])
         requires all { length vector.now ≡ N }
         requires wide { length totals.now ≡ width C H G }

@@ -56,9 +56,9 @@ impl<const N: usize, const C: usize, const H: usize, const G: usize> ScanMemory<
         TryEnd::of(clean, known)
     }
 
-    // The later tries of a scan, at most `N` + 1, after a first one that was not clean, whose numbers are the floor and the base of
-    // the scan. After each that fails, workers are asked until one lends; where none does, a scan that `hushes` asks all anew to rest. A
-    // function of its own, so that a quiet scan has no more code and memory than it needs.
+    // The later tries of a scan, at most `N` + 1, after a first one that was not clean, whose numbers are the floor and the base
+    // of the scan. After each that fails, workers are asked until one lends; where none does, a scan that `hushes` asks all anew
+    // to rest. A function of its own, so that a quiet scan has no more code and memory than it needs.
     #[inline(never)]
     fn later_tries<S: ScanSeat<N, C, H, G>>(
         &mut self,
@@ -97,8 +97,8 @@ impl<const N: usize, const C: usize, const H: usize, const G: usize> ScanMemory<
     }
 
     /// A scan of at most `N` + 2 tries, which takes no memory and waits for nobody. Where it changes the sums of the remembered
-    /// rows is listed ([`ScanMemory::changed_totals`]). One that `hushes` asks the workers to rest from its first failed try on to its end
-    /// ([`Board::hush`]); the scan of an update asks for nothing.
+    /// rows is listed ([`ScanMemory::changed_totals`]). One that `hushes` asks the workers to rest from its first failed try on
+    /// to its end ([`Board::hush`]); the scan of an update asks for nothing.
     #[inline(always)]
     pub fn scan<S: ScanSeat<N, C, H, G>>(
         &mut self,
@@ -146,8 +146,8 @@ impl<const N: usize, const C: usize, const H: usize, const G: usize> ScanMemory<
     }
 }
 
-// A scan that `hushes` asks the workers to rest. This and the next two are functions of their own, so that what is known of the try
-// before is known behind them, too.
+// A scan that `hushes` asks the workers to rest. This and the next two are functions of their own, so that what is known of the
+// try before is known behind them, too.
 fn hush<const N: usize, const C: usize, const H: usize, const G: usize>(
     board: &Board<N, C, H, G>,
     hushes: bool,

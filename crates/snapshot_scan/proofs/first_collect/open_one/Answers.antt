@@ -66,7 +66,8 @@ returns-clause-opened g c = λ ms rows is.
       remembered = is.remembered;
       due = is.due;
       asks = is.asks;
-      wide = λ q y e. ⊎_elim (λ h. is.wide q y h) (λ h. subst (IsWide w) h.0 c.open_or_read.ensures.wide) (from_set gs p g' q y e);
+      wide = λ q y e. ⊎_elim (λ h. is.wide q y h) (λ h. subst (IsWide w) h.0 c.open_or_read.ensures.wide) (from_set gs p g' q y
+          e);
       same = map_set version_of gs p g'
           ∙ (ap (set (map version_of gs) p) c.open_or_read.ensures.same
           ∙ (set_same (map version_of gs) p (version_of gg) (at_map version_of gs p gg at) ∙ is.same));

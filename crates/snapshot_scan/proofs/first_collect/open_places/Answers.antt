@@ -29,5 +29,6 @@ pub returns-clause-opened : goal.returns-clause-opened
 returns-clause-opened g c = λ ms rows is.
     let w : ℕ = width g.row.C g.row.H g.row.G in let l = c.loop-k in
     let f = c.loop-k-test.false in let end = l.auto.k-end in
-    subst (λ (z : ℕ). HasOpened w (c.args.from + z) ms rows (members_of (g.S.ScanSeat.bundle l.seat)) l.remembered l.opened l.known)
+    subst (λ (z : ℕ). HasOpened w (c.args.from + z) ms rows (members_of (g.S.ScanSeat.bundle l.seat)) l.remembered l.opened
+    l.known)
     (omega (arith, f, end)) (l.invariant.opened ms rows is)

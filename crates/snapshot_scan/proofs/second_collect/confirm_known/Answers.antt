@@ -1,4 +1,5 @@
-use Rattle.std.proofs.Common.{refl, ◌≡◌, ◌≢◌, ◌*◌, ◌/◌, ◌<◌, ◌==◌, Bool, true, false, cond, ℕ, List, [], length, slice_index, arith, sym, ap, ◌∙◌, subst}
+use Rattle.std.proofs.Common.{refl, ◌≡◌, ◌≢◌, ◌*◌, ◌/◌, ◌<◌, ◌==◌, Bool, true, false, cond, ℕ, List, [], length, slice_index}
+use Rattle.std.proofs.Common.{arith, sym, ap, ◌∙◌, subst}
 use Rattle.std.proofs.Common.{eq-eqb, ne_eqb}
 use Rattle.std.proofs.lemmas.Bool.{true≢false}
 use Rattle.ledger_core.specs.Ops.{width}

@@ -18,7 +18,8 @@ loop-k-init g c = record {
 -- the place was found again
 pub loop-k-preserved : goal.loop-k-preserved
 loop-k-preserved g c =
-    let inv = c.loop-k.invariant in let os = c.args.opened.now in let inside = c.requires.inside in let one = c.confirm_one-number in
+    let inv = c.loop-k.invariant in let os = c.args.opened.now in let inside = c.requires.inside in let one = c.confirm_one-number
+    in
     let k = c.loop-k.k in let t = c.loop-k-test.true in
     let p = c.args.from + k in let s = one.result in let o = get_or os p 0 in
     let same : s ≡ o = c.if-number-opened.false in
@@ -37,7 +38,8 @@ loop-k-preserved g c =
 -- it was not
 pub returns-then-number-opened : goal.returns-then-number-opened
 returns-then-number-opened g c =
-    let inv = c.loop-k.invariant in let os = c.args.opened.now in let inside = c.requires.inside in let one = c.confirm_one-number in
+    let inv = c.loop-k.invariant in let os = c.args.opened.now in let inside = c.requires.inside in let one = c.confirm_one-number
+    in
     let t = c.loop-k-test.true in
     let p = c.args.from + c.loop-k.k in let s = one.result in let o = get_or os p 0 in
     let noted : set os p s ≡ c.note_moved.new.found = sym c.note_moved.ensures in

@@ -6,6 +6,7 @@ pub load_as-requires : goal.load_as-requires
 load_as-requires g c = (
   search rules,
   search rules,
-  load_allows _ _ _ _ _ _ _ _ c.requires.of_board.1.0 c.requires.of_board.1.1 c.args.what _ c.requires.of_board.1.2 c.requires.inside
+  load_allows _ _ _ _ _ _ _ _ c.requires.of_board.1.0 c.requires.of_board.1.1 c.args.what _ c.requires.of_board.1.2
+      c.requires.inside
       (search rules),
 )

@@ -23,10 +23,12 @@ pub returns-in_err-how-clause-answers : goal.returns-in_err-how-clause-answers
 returns-in_err-how-clause-answers g c = IfOk-from_err c.from_residual-in_err-how.result _ c.from_residual-in_err-how.ensures.0
 
 pub returns-in_err-answer-clause-actor : goal.returns-in_err-answer-clause-actor
-returns-in_err-answer-clause-actor g c = IfOk-from_err c.from_residual-in_err-answer.result _ c.from_residual-in_err-answer.ensures.0
+returns-in_err-answer-clause-actor g c = IfOk-from_err c.from_residual-in_err-answer.result _
+    c.from_residual-in_err-answer.ensures.0
 
 pub returns-in_err-answer-clause-answers : goal.returns-in_err-answer-clause-answers
-returns-in_err-answer-clause-answers g c = IfOk-from_err c.from_residual-in_err-answer.result _ c.from_residual-in_err-answer.ensures.0
+returns-in_err-answer-clause-answers g c = IfOk-from_err c.from_residual-in_err-answer.result _
+    c.from_residual-in_err-answer.ensures.0
 
 pub returns-in_err-push-clause-actor : goal.returns-in_err-push-clause-actor
 returns-in_err-push-clause-actor g c = IfOk-from_err c.from_residual-in_err-push.result _ c.from_residual-in_err-push.ensures.0

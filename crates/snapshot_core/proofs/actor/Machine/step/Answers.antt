@@ -54,7 +54,8 @@ returns-then-torn-clause-world g c =
     let at = found act_of m.actors.items c.args.who a (omega arith) c.index.ensures in
     ap (λ (b : Bool). cond b w (publishes_as g.row.C g.row.H g.row.G m.n w c.args.at c.args.who
     (ops_of (slice_get c.args.events.now a.begin)) (act_of a) (slice_get w.segments c.args.who))) (sym c.if-torn.true)
-    ∙ ap (steps_in g.row.C g.row.H g.row.G m.n c.args.events.now w c.args.at c.args.who c.args.torn (act_of a)) (sym c.in-Ready.is)
+    ∙ ap (steps_in g.row.C g.row.H g.row.G m.n c.args.events.now w c.args.at c.args.who c.args.torn (act_of a)) (sym
+    c.in-Ready.is)
     ∙ ap (steps g.row.C g.row.H g.row.G m.n c.args.events.now w c.args.at c.args.who c.args.torn) (sym at)
 
 pub returns-else-torn-clause-world : goal.returns-else-torn-clause-world

@@ -88,7 +88,14 @@ loop-k-init g c = λ s gs sums h.
 
 pub one_try-tried-requires : goal.one_try-tried-requires
 one_try-tried-requires g c =
-    let z = c.requires.failed in let inv = (c.loop-k.invariant z.0 z.1 z.2 z.3).1 in (search rules, (omega arith, inv.may c.loop-k-test.true))
+    let z = c.requires.failed in let inv = (c.loop-k.invariant z.0 z.1 z.2 z.3).1 in (
+      search rules,
+      (
+        omega arith,
+        inv.may
+            c.loop-k-test.true,
+      ),
+    )
 
 pub ask_all-lends-requires : goal.ask_all-lends-requires
 ask_all-lends-requires g c =
@@ -106,7 +113,8 @@ ask_all-lends-requires g c =
     let deep : length r.found.items ≡ n = r.sizes.3 in
     let view = at_loop n c.loop-k._k tries c.loop-k.self.remembered.items fl ba ms _ inv.count c.loop-k-test.true inv.view in
     let d : ScanLog = stood tries c.loop-k.self.remembered.items fl ba (scan_of ms) in
-    let fails = loop_fails n w c.loop-k._k r.opened.items r.found.items r.remembered.items c.loop-k.self.remembered.items few long deep tries fl ba ms _ _
+    let fails = loop_fails n w c.loop-k._k r.opened.items r.found.items r.remembered.items c.loop-k.self.remembered.items few long
+    deep tries fl ba ms _ _
     h.of_board.1 inv.count view (made.failed clean) in
     let scan = now_is _ ms _ h.of_board.1 fails in (
       search rules,
@@ -124,7 +132,8 @@ ask_all-lends-requires g c =
           ap (λ (l : List ℕ). length l) c.as_slice-in-loop-k.ensures.value ∙ deep,
           ap (λ (l : List ℕ). length l) c.as_mut_slice-lent.ensures.value ∙ r.sizes.4,
         );
-        may_ask = subst₂ (λ (x : ScanLog) (y : List ℕ). MayAsk fl (due_from 0 ba y) x) (sym scan) (sym c.as_slice-in-loop-k.ensures.value)
+        may_ask = subst₂ (λ (x : ScanLog) (y : List ℕ). MayAsk fl (due_from 0 ba y) x) (sym scan) (sym
+            c.as_slice-in-loop-k.ensures.value)
             (may_start n r.opened.items r.found.items r.remembered.items fl ba (due_from 0 ba r.found.items) d);
       },
     )
@@ -144,12 +153,14 @@ loop-k-preserved g c = λ s gs sums h.
     let deep : length r.found.items ≡ n = r.sizes.3 in
     let view = at_loop n c.loop-k._k tries c.loop-k.self.remembered.items fl ba ms _ inv.count c.loop-k-test.true inv.view in
     let d : ScanLog = stood tries c.loop-k.self.remembered.items fl ba (scan_of ms) in
-    let fails = loop_fails n w c.loop-k._k r.opened.items r.found.items r.remembered.items c.loop-k.self.remembered.items few long deep tries fl ba ms _ _
+    let fails = loop_fails n w c.loop-k._k r.opened.items r.found.items r.remembered.items c.loop-k.self.remembered.items few long
+    deep tries fl ba ms _ _
     h.of_board.1 inv.count view (made.failed clean) in
     let q = c.ask_all-lends.ensures.refuses c.if-lends.false in
     let asked = q.1 ∙ ap (due_from 0 ba) c.as_slice-in-loop-k.ensures.value in
     let t : Tried = record { first = r.opened.items; second = r.found.items; asks = q.0 } in
-    let end = loop_refuses n w c.loop-k._k r.opened.items r.found.items r.remembered.items c.loop-k.self.remembered.items few long deep tries fl ba ms _ _
+    let end = loop_refuses n w c.loop-k._k r.opened.items r.found.items r.remembered.items c.loop-k.self.remembered.items few long
+    deep tries fl ba ms _ _
     h.of_board.1 inv.count view _ q.0 fails asked q.3 in
     let failed : FailedTry n fl ba t = record {
       opened = long;
@@ -165,16 +176,19 @@ loop-k-preserved g c = λ s gs sums h.
         ruled = c.ask_all-lends.ensures.ruled;
         leads = still_some _ ms _ h.of_board.1 end;
         may = may_try c.args.board.now s (g.S.ScanSeat.bundle c.ask_all-lends.new.seat)
-            (c.loop-k._k + 1) (tries ++ t ∷ []) r.remembered.items fl ba r.opened.items h.of_board c.args.self.now.geometry own few long
+            (c.loop-k._k + 1) (tries ++ t ∷ []) r.remembered.items fl ba r.opened.items h.of_board c.args.self.now.geometry own
+            few long
             made.wide (count_more tries t c.loop-k._k inv.count) end;
-        listed = lists_then w sums c.loop-k.self.totals.items r.totals.items c.loop-k.self.changed_totals r.changed_totals inv.listed
+        listed = lists_then w sums c.loop-k.self.totals.items r.totals.items c.loop-k.self.changed_totals r.changed_totals
+            inv.listed
             made.listed;
         count = count_more tries t c.loop-k._k inv.count;
         above = each_push (λ (u : Tried). Below (scan_of ms).seen u.first) tries t inv.above
             (seen_below n (stood tries c.loop-k.self.remembered.items fl ba (scan_of ms)) r.opened.items long
             (λ p lt. subst (λ (x : ScanLog). IsLoaded p x (slice_index r.opened.items p)) (now_is d ms _ h.of_board.1 view)
             (made.told p lt)));
-        tried = tries_more n fl ba c.loop-k.self.opened.items c.loop-k.self.found.items tries inv.tried c.loop-k.self.remembered.items
+        tried = tries_more n fl ba c.loop-k.self.opened.items c.loop-k.self.found.items tries inv.tried
+            c.loop-k.self.remembered.items
             (scan_of ms) r.opened.items r.found.items q.0
             failed;
         lengths = inv.lengths;
@@ -209,24 +223,28 @@ returns-then-clean g c = λ s gs sums h.
       idle = record { remembered = ap (λ (x : ScanLog). x.remembered) scan; rest = ap (λ (x : ScanLog). x.trying) scan };
       others = others_same _ ms _ h.of_board.1 end;
       direct = λ _ _. subst (λ (x : ScanLog). IsAnswered n (scan_of ms) x a) (sym scan)
-          (direct_later n fl ba c.loop-k.self.opened.items c.loop-k.self.found.items tries inv.tried c.loop-k.self.remembered.items
+          (direct_later n fl ba c.loop-k.self.opened.items c.loop-k.self.found.items tries inv.tried
+          c.loop-k.self.remembered.items
           (scan_of ms) r.opened.items found r.totals.items
           r.remembered.items inv.lengths.0 long
           (λ q low. subst (λ (x : ScanLog). IsLoaded q x (slice_index r.opened.items q)) (now_is d ms _ h.of_board.1 view)
           (made.told q low)));
       came_direct = λ _ _. subst (λ (x : ScanLog). AnswersBy n w (scan_of ms) x a) (sym scan)
-          (came_later n w fl ba c.loop-k.self.opened.items c.loop-k.self.found.items tries inv.tried c.loop-k.self.remembered.items
+          (came_later n w fl ba c.loop-k.self.opened.items c.loop-k.self.found.items tries inv.tried
+          c.loop-k.self.remembered.items
           (scan_of ms) r.opened.items found r.remembered.items a
           long (made.same is) (omega (arith, count, lt)) refl);
       quiet = λ e. absurd (not_quiet (ap quiet_in e));
       once = λ e. absurd (not_quiet (ap quiet_in e));
-      moved = λ _. moved_later n fl ba c.loop-k.self.opened.items c.loop-k.self.found.items tries inv.tried c.loop-k.self.remembered.items (scan_of ms)
+      moved = λ _. moved_later n fl ba c.loop-k.self.opened.items c.loop-k.self.found.items tries inv.tried
+          c.loop-k.self.remembered.items (scan_of ms)
           (map version_of gs) r.opened.items _ c.args.self.now.geometry.workers.0 inv.lengths.0 long
           (ap (λ (x : ScanLog). x.opened) scan);
       lent = λ e. absurd (direct_lent _ e);
       came_lent = λ e. absurd (direct_lent _ e);
       numbers = λ _ _. made.numbers is;
-      listed = lists_then w sums c.loop-k.self.totals.items r.totals.items c.loop-k.self.changed_totals r.changed_totals inv.listed made.listed;
+      listed = lists_then w sums c.loop-k.self.totals.items r.totals.items c.loop-k.self.changed_totals r.changed_totals
+          inv.listed made.listed;
       gave_up = λ e. absurd (direct_up _ e);
       came_up = λ e. absurd (direct_up _ e);
     }
@@ -245,7 +263,8 @@ returns-then-lends g c = λ s gs sums h.
     let long : length r.opened.items ≡ n = r.sizes.2 in
     let deep : length r.found.items ≡ n = r.sizes.3 in
     let view = at_loop n c.loop-k._k tries c.loop-k.self.remembered.items fl ba ms _ inv.count c.loop-k-test.true inv.view in
-    let fails = loop_fails n w c.loop-k._k r.opened.items r.found.items r.remembered.items c.loop-k.self.remembered.items few long deep tries fl ba ms _ _
+    let fails = loop_fails n w c.loop-k._k r.opened.items r.found.items r.remembered.items c.loop-k.self.remembered.items few long
+    deep tries fl ba ms _ _
     h.of_board.1 inv.count view (made.failed failed) in
     let l = c.ask_all-lends.ensures.lends c.if-lends.true in let lent = c.ask_all-lends.new.lent in
     let a = lent_in n w lent in let slot = c.as_mut_slice-lent in
@@ -253,7 +272,8 @@ returns-then-lends g c = λ s gs sums h.
     let words = sym (written lent slot.result.now r.lent.items r.lent.len slot.ensures.value slot.ensures.len
     c.ask_all-lends.auto.lent) in
     let wide = c.ask_all-lends.auto.lent ∙ (ap (λ (l : List ℕ). length l) slot.ensures.value ∙ r.sizes.4) in
-    let end = loop_lends n w c.loop-k._k r.opened.items r.found.items r.remembered.items c.loop-k.self.remembered.items few long deep tries fl ba ms _ _
+    let end = loop_lends n w c.loop-k._k r.opened.items r.found.items r.remembered.items c.loop-k.self.remembered.items few long
+    deep tries fl ba ms _ _
     h.of_board.1 inv.count view _ a l.1 l.0 l.2 fails asked l.7 in
     let scan = now_is _ ms _ h.of_board.1 end in let count = inv.count in let lt = c.loop-k-test.true in
     record {
@@ -275,12 +295,14 @@ returns-then-lends g c = λ s gs sums h.
           (vector_long n w lent wide) inv.seen
           (ap (λ (ws : List ℕ). is_above fl (take n (drop 1 ws))) (sym l.5) ∙ l.6.above));
       came_lent = λ _. subst₂ (λ (x : ScanLog) (z : List ℕ). AnswersBy n w (scan_of ms) x (lent_in n w z)) (sym scan) words
-          (came_lending n w fl ba c.loop-k.self.opened.items c.loop-k.self.found.items tries inv.tried c.loop-k.self.remembered.items
+          (came_lending n w fl ba c.loop-k.self.opened.items c.loop-k.self.found.items tries inv.tried
+          c.loop-k.self.remembered.items
           (scan_of ms) r.opened.items r.found.items r.remembered.items a
           l.1 l.0 l.2 (asked_worker l.1 ∷ l.2) long deep (omega (arith, count, lt)) (made.rose failed) asked l.4 l.6
           (ap (lent_in n w) (sym l.5)));
       numbers = λ q e. absurd (lent_direct q e);
-      listed = lists_then w sums c.loop-k.self.totals.items r.totals.items c.loop-k.self.changed_totals r.changed_totals inv.listed made.listed;
+      listed = lists_then w sums c.loop-k.self.totals.items r.totals.items c.loop-k.self.changed_totals r.changed_totals
+          inv.listed made.listed;
       gave_up = λ e. absurd (lent_up e);
       came_up = λ e. absurd (lent_up e);
     }
@@ -312,12 +334,15 @@ returns g c = λ s gs sums h.
       came_lent = λ e. absurd (up_lent e);
       numbers = λ q e. absurd (up_direct q e);
       listed = inv.listed;
-      gave_up = λ _. subst (λ (x : ScanLog). IsGivenUp n (scan_of ms) x c.loop-k.self.opened.items c.loop-k.self.found.items) (sym scan)
-          (all_failed n fl ba c.loop-k.self.opened.items c.loop-k.self.found.items tries inv.tried c.loop-k.self.remembered.items (scan_of ms) (omega
+      gave_up = λ _. subst (λ (x : ScanLog). IsGivenUp n (scan_of ms) x c.loop-k.self.opened.items c.loop-k.self.found.items) (sym
+          scan)
+          (all_failed n fl ba c.loop-k.self.opened.items c.loop-k.self.found.items tries inv.tried c.loop-k.self.remembered.items
+          (scan_of ms) (omega
           (arith, count, t, last))
           inv.above);
       came_up = λ _ e moved. subst (λ (x : ScanLog). CameTo n w (scan_of ms) x (GaveUp e.worker e.first e.last)) (sym scan)
-          (came_up n w fl ba c.loop-k.self.opened.items c.loop-k.self.found.items tries inv.tried c.loop-k.self.remembered.items (scan_of ms) (omega
+          (came_up n w fl ba c.loop-k.self.opened.items c.loop-k.self.found.items tries inv.tried c.loop-k.self.remembered.items
+          (scan_of ms) (omega
           (arith, count, t, last)) e
           moved);
     }

@@ -1,4 +1,5 @@
-use Rattle.std.proofs.Common.{◌≡◌, ⊎_elim, Bool, true, false, cond, refl, ℕ, List, length, map, slice_index, sym, ap, ◌∙◌, subst, arith}
+use Rattle.std.proofs.Common.{◌≡◌, ⊎_elim, Bool, true, false, cond, refl, ℕ, List, length, map, slice_index, sym, ap, ◌∙◌}
+use Rattle.std.proofs.Common.{subst, arith}
 use Rattle.std.proofs.Math.Path.{transport}
 use Rattle.ledger_core.specs.Ops.{width}
 use Rattle.register_rule.specs.declared.view.ScanLog.{ScanLog}
@@ -96,11 +97,13 @@ invariant_of-self g c =
     let lt = c.confirm-clean.auto.totals in let lf = c.confirm-clean.auto.found in
     let eg = written c.confirm-clean.new.remembered rows.result.now old.remembered.items old.remembered.len rows.ensures.value
     rows.ensures.len lg in
-    let et = written c.confirm-clean.new.totals sums.result.now old.totals.items old.totals.len sums.ensures.value sums.ensures.len
+    let et = written c.confirm-clean.new.totals sums.result.now old.totals.items old.totals.len sums.ensures.value
+    sums.ensures.len
     lt in
     let eo = written c.collect-known.new.opened numbers.result.now old.opened.items old.opened.len numbers.ensures.value
     numbers.ensures.len lo in
-    let ef = written c.confirm-clean.new.found again.result.now old.found.items old.found.len again.ensures.value again.ensures.len
+    let ef = written c.confirm-clean.new.found again.result.now old.found.items old.found.len again.ensures.value
+    again.ensures.len
     lf in
     record {
       geometry = old.geometry;

@@ -45,7 +45,8 @@ invariant_of-self g c =
       sizes = (k.few ∙ m.sizes.0, k.long ∙ m.sizes.1, m.sizes.2, m.sizes.3, m.sizes.4);
       wide = k.wide;
       sums = k.totals;
-      listed = moves_inside (width g.row.C g.row.H g.row.G) sums.result.now r.new.totals m.changed_totals r.new.changed_totals m.listed
+      listed = moves_inside (width g.row.C g.row.H g.row.G) sums.result.now r.new.totals m.changed_totals r.new.changed_totals
+          m.listed
           r.ensures.changed_totals;
     }
 

@@ -93,7 +93,8 @@ fails : {N C H G : ℕ} (b : Board N C H G) (s s' : Bundle) (old new : ScanMemor
     → HasFailedOnce b s s' old.remembered.items new.remembered.items old.totals.items new.totals.items new.opened.items
     new.found.items new.changed_totals
 fails {N} {C} {H} {G} b s s' old new empty end of_board ready none failed tried =
-    failed_once b s s' old.remembered.items new.remembered.items old.totals.items new.totals.items new.opened.items new.found.items
+    failed_once b s s' old.remembered.items new.remembered.items old.totals.items new.totals.items new.opened.items
+    new.found.items
     empty new.changed_totals end of_board ready none failed
     (subst (λ (l : List ℕ). HasTried N C H G s s' old.remembered.items new.remembered.items old.totals.items new.totals.items
     new.opened.items l empty new.changed_totals end) (ap (λ (b : Bool). cond b new.opened.items new.found.items) failed) tried)
