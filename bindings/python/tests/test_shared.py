@@ -159,6 +159,23 @@ class Shared(unittest.TestCase):
             c.labels("x").inc()
             self.assertEqual((self.value("c_total", k="x"), self.value("c_total", k=str(n))), (n + 2, n))
 
+    def test_stopped(self):
+        """Others make children at once, whatever a process is stopped within while it scrapes: it may be taking memory."""
+        c = shared.Counter("c", "C.", ["k"], registry=self.registry)
+        c.labels("x").inc()
+
+        def scrapes():
+            while True:
+                self.registry.samples()
+
+        child = self.fork(scrapes)
+        for n in range(50):
+            time.sleep(0.005)
+            os.kill(child, signal.SIGSTOP)
+            c.labels(str(n)).inc()
+            os.kill(child, signal.SIGCONT)
+        self.assertEqual(self.value("c_total", k="49"), 1)
+
     def test_too_many(self):
         """The process for which no recorder is left is refused, and says so; when another one ends, its recorder goes to the next."""
         c = shared.Counter("c", "C.", registry=self.registry)
