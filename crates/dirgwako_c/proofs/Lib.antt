@@ -4,10 +4,13 @@ pub mod HandleValues
 pub mod Handing
 pub mod Meeting
 pub mod Made
+pub mod Moved
 pub mod Newest
 pub mod Places
 pub mod Reading
+pub mod Rows
 pub mod Seating
+pub mod Sending
 pub mod Settled
 pub mod Values
 mod Listing

@@ -5,10 +5,9 @@ ghost use Rattle.page_crew.specs.Owned.{first_of};
 ghost use Rattle.dirgwako_c.specs.Held.{Calls, Frees};
 ghost use Rattle.dirgwako_c.specs.Registries.{grouped_in, owner_in, recorder_in, scrapers_in, spare_in, Opens, HandsOut, TakesBack};
 
+use crate::handles::{RecorderHandle, RegistryHandle};
 use crate::held::{HeldRecorder, HeldRegistry};
 use crate::opening::open;
-use crate::recorder_handle::RecorderHandle;
-use crate::registry_handle::RegistryHandle;
 use std::alloc::Global;
 
 /// A new registry of this id, over a page of one board, which keeps `window` scrapes of each board, with so many scrapers, into a registry's handle.

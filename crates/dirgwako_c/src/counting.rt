@@ -6,7 +6,7 @@ ghost use Rattle.snapshot_update.specs.Faults.{count_fault_number};
 ghost use Rattle.dirgwako_c.specs.Held.{answer_of, Calls};
 ghost use Rattle.dirgwako_c.specs.Recorders.{Counts};
 
-use crate::recorder_handle::RecorderHandle;
+use crate::handles::RecorderHandle;
 use ledger_core::{Counter, Gauge, Histogram};
 use snapshot_update::CountFault;
 use std::alloc::Global;

@@ -8,7 +8,7 @@ ghost use Rattle.dirgwako_c.specs.Held.{Calls};
 ghost use Rattle.dirgwako_c.specs.Registries.{grouped_in, SparesStay, MakesFamilyBy, MakesShifted, GivesChildBy};
 
 use crate::family::{CounterFamily, GaugeFamily, HistogramFamily};
-use crate::registry_handle::RegistryHandle;
+use crate::handles::RegistryHandle;
 use crate::texts::{text, texts};
 use dirgwako::{OnPage, Registrar};
 use ledger_core::{Counter, Gauge, Histogram};

@@ -13,6 +13,8 @@ mod counting;
 mod families;
 mod family;
 mod geometry;
+mod handle;
+mod handles;
 mod held;
 mod joining;
 mod loose;
@@ -22,11 +24,8 @@ mod opening;
 mod page_boards;
 mod publishing;
 mod readings;
-mod recorder_handle;
 mod refusals;
-mod registry_handle;
 mod replying;
-mod scraper_handle;
 mod scrapers;
 mod scraping;
 mod sends;
@@ -48,6 +47,7 @@ pub use families::{
     dirgwako_c_gauge_of, dirgwako_c_histogram_family_new, dirgwako_c_histogram_of,
 };
 pub use family::{CounterFamily, GaugeFamily, HistogramFamily};
+pub use handles::{RecorderHandle, RegistryHandle, ScraperHandle};
 pub use metrics::{dirgwako_c_counter_new, dirgwako_c_gauge_new, dirgwako_c_histogram_new};
 pub use numbers::{
     HistogramTotals, dirgwako_c_counter_total, dirgwako_c_gauge_value, dirgwako_c_histogram_totals,
@@ -55,11 +55,8 @@ pub use numbers::{
 pub use page_boards::{dirgwako_c_board_add, dirgwako_c_board_of, dirgwako_c_boards};
 pub use publishing::{dirgwako_c_place, dirgwako_c_publish};
 pub use readings::{dirgwako_c_kept, dirgwako_c_read, dirgwako_c_read_kept};
-pub use recorder_handle::RecorderHandle;
 pub use refusals::dirgwako_c_refusal;
-pub use registry_handle::RegistryHandle;
 pub use replying::{dirgwako_c_reply, dirgwako_c_scraper_reply};
-pub use scraper_handle::ScraperHandle;
 pub use scrapers::{dirgwako_c_scraper_free, dirgwako_c_scraper_take, dirgwako_c_scrapers};
 pub use scraping::{dirgwako_c_scrape, dirgwako_c_scraper_scrape};
 pub use sends::{recorder_sent, registry_sent, scraper_sent};

@@ -6,7 +6,7 @@ ghost use Rattle.registry_state.specs.declared.handle.Handle.TheVariants as Hand
 ghost use Rattle.dirgwako_c.specs.Held.{Calls};
 ghost use Rattle.dirgwako_c.specs.Registries.{grouped_in, metric_answer, SparesStay, MakesNamed};
 
-use crate::registry_handle::RegistryHandle;
+use crate::handles::RegistryHandle;
 use crate::texts::text;
 use dirgwako::{MetricRefusal, OnPage, Registrar};
 use ledger_core::{Counter, Gauge, Histogram};

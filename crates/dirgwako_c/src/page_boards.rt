@@ -8,7 +8,7 @@ ghost use Rattle.dirgwako_c.specs.Held.{Calls};
 ghost use Rattle.dirgwako_c.specs.Registries.{TellsNobody};
 ghost use Rattle.dirgwako_c.specs.Boards.{AddsBoard, TellsBoards, TellsBoard};
 
-use crate::registry_handle::RegistryHandle;
+use crate::handles::RegistryHandle;
 use dirgwako::PageCrew;
 use std::alloc::Global;
 

@@ -7,8 +7,8 @@ ghost use Rattle.dirgwako_c.specs.Changes.{Publishes};
 
 use crate::change::{Change, list_ops};
 use crate::counting::answer;
+use crate::handles::RecorderHandle;
 use crate::held::HeldRecorder;
-use crate::recorder_handle::RecorderHandle;
 use ledger_core::Histogram;
 use std::alloc::Global;
 

@@ -5,9 +5,9 @@ ghost use Rattle.registry_state.specs.Journal.{scrapes};
 ghost use Rattle.dirgwako_c.specs.Held.{Calls};
 ghost use Rattle.dirgwako_c.specs.Numbers.{Reads, TellsKept, ReadsKept};
 
+use crate::handles::RegistryHandle;
 use crate::held::HeldRegistry;
 use crate::numbers::hand_over_numbers;
-use crate::registry_handle::RegistryHandle;
 use dirgwako::{NoScrape, RegistryState};
 use page_crew::SharedScanner;
 use snapshot_scan::Snapshot;

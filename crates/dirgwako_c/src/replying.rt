@@ -4,8 +4,7 @@ ghost use Rattle.dirgwako_c.specs.Held.{Calls};
 ghost use Rattle.dirgwako_c.specs.Registries.{scrapes_by, scrapes_alone, Replies};
 
 use crate::buffers::hand_over;
-use crate::registry_handle::RegistryHandle;
-use crate::scraper_handle::ScraperHandle;
+use crate::handles::{RegistryHandle, ScraperHandle};
 use dirgwako::serve_one;
 use scrape_http::ScrapeFrom;
 use std::alloc::Global;

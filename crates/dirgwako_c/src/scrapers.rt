@@ -4,9 +4,8 @@ ghost use Rattle.dirgwako_c.specs.Held.{Calls, Frees};
 ghost use Rattle.dirgwako_c.specs.Boards.{TellsScrapers};
 ghost use Rattle.dirgwako_c.specs.Registries.{unboxed, HandsOutScraper};
 
+use crate::handles::{RegistryHandle, ScraperHandle};
 use crate::held::HeldScraper;
-use crate::registry_handle::RegistryHandle;
-use crate::scraper_handle::ScraperHandle;
 use std::alloc::Global;
 
 /// Takes the last of these scrapers.

@@ -5,9 +5,8 @@ ghost use Rattle.dirgwako_c.specs.Held.{Calls};
 ghost use Rattle.dirgwako_c.specs.Registries.{scrapes_by, scrapes_alone, PrintsTo};
 
 use crate::buffers::hand_over;
+use crate::handles::{RegistryHandle, ScraperHandle};
 use crate::held::{HeldRegistry, HeldScraper};
-use crate::registry_handle::RegistryHandle;
-use crate::scraper_handle::ScraperHandle;
 use dirgwako::{NoScrape, Scrape, TextFault, render};
 use scrape_http::ScrapeFrom;
 use std::alloc::Global;

@@ -1,9 +1,7 @@
 //! What C holds may go to another thread.
 ghost use Rattle.std.specs.Prelude.{◌≡◌};
 
-use crate::recorder_handle::RecorderHandle;
-use crate::registry_handle::RegistryHandle;
-use crate::scraper_handle::ScraperHandle;
+use crate::handles::{RecorderHandle, RegistryHandle, ScraperHandle};
 
 /// What may go to another thread, as it was.
 fn sent<T: Send>(held: T) -> T

@@ -9,9 +9,9 @@ ghost use Rattle.dirgwako_c.specs.Held.{Calls};
 ghost use Rattle.dirgwako_c.specs.Registries.{recorders_in};
 ghost use Rattle.dirgwako_c.specs.Settling.{seats_on, workers_of, published_in, Knows, AreOnce, IsTwice, IsApart, AreSettled, Settles};
 
+use crate::handles::RegistryHandle;
 use crate::held::HeldRegistry;
 use crate::numbers::hand_over_numbers;
-use crate::registry_handle::RegistryHandle;
 use crate::spare::Spare;
 use snapshot_scan::Snapshot;
 use std::alloc::Global;

@@ -3,7 +3,7 @@ ghost use Rattle.std.specs.Prelude.{◌≡◌};
 ghost use Rattle.dirgwako_c.specs.Held.{Calls};
 ghost use Rattle.dirgwako_c.specs.Registries.{owner_in, SparesStay, SetsWindow};
 
-use crate::registry_handle::RegistryHandle;
+use crate::handles::RegistryHandle;
 use dirgwako::PageCrew;
 use std::alloc::Global;
 
