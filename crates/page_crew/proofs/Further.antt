@@ -145,3 +145,13 @@ module _ {N C H G : ℕ} where
         → IfErr result (IsRefusedByCrew old new number values)
     refused_then (Ok handle) fault = tt
     refused_then (Err why) fault = inr (kind, many, full, refused_from why fault)
+
+-- a child was refused for want of a slot, and nothing has changed
+pub was_full : {N C H G : ℕ} (old mid : PageCrew N C H G) (number : ℕ) (values : List (List ℕ)) (why : PageChildFault) (kind : Kind) (slots : ℕ)
+    → why ≡ Full kind slots → PageDid old mid (λ a b. LeavesPage C H G a b number why)
+    → IsPageChildFault C H G (page_of old) number values why
+    → IsUnchanged old mid × IsPageChildFault C H G (page_of old) number values (Full kind slots)
+was_full {N} {C} {H} {G} old mid number values why kind slots is leaves fault = (
+  subst (λ (w : PageChildFault). PageDid old mid (λ a b. LeavesPage C H G a b number w)) is leaves,
+  subst (IsPageChildFault C H G (page_of old) number values) is fault,
+)

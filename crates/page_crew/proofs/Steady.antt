@@ -1,5 +1,5 @@
 -- Calls of a page keep the ids of its boards, and how many they are.
-use Rattle.std.proofs.Common.{◌≡◌, ℕ, zero, suc, List, [], ◌∷◌, Some, length, map, slice_get, set, refl, sym, ap, subst, ◌∙◌, inl, inr}
+use Rattle.std.proofs.Common.{◌≡◌, ℕ, zero, suc, ◌+◌, ◌<◌, ◌≤◌, List, [], ◌∷◌, Some, length, map, slice_get, set, refl, sym, ap, subst, ◌∙◌, inl, inr}
 use Rattle.std.specs.Prelude.{Result, Ok, Err, IfOk, IfErr, OnOk, OnErr}
 use Rattle.std.specs.List.{AllZip}
 use Rattle.std.proofs.Math.ListN.{length-set}
@@ -9,6 +9,8 @@ use Rattle.expo_text.specs.Scraped.{Scraped}
 use Rattle.metric_desc.specs.Desc.{Descriptor}
 use Rattle.register_rule.specs.declared.view.Answer.{Answer}
 use Rattle.snapshot_scan.specs.declared.contended.Contended.{Contended}
+use Rattle.register_rule.specs.Faults.{IsBoardSize}
+use Rattle.registry_state.specs.Faults.{IsWindow}
 use Rattle.registry_state.specs.Journal.{Registered}
 use Rattle.registry_state.specs.Kept.{RegistryView}
 use Rattle.registry_state.specs.Calls.{changed}
@@ -27,7 +29,10 @@ use Rattle.scrape_page.specs.declared.fault.PageFamilyFault.{PageFamilyFault}
 use Rattle.scrape_page.proofs.Again.{SameFace, same_made, same_stopped, same_asked}
 use Rattle.scrape_page.proofs.Windowed.{same_windowed}
 use Rattle.page_crew.specs.Boards.{AreNumbered}
+use Rattle.page_crew.specs.News.{NewsRing}
 use Rattle.page_crew.specs.Rings.{Ring, HaveRoom}
+use Rattle.page_crew.specs.declared.owner.PageCrew.{PageCrew}
+use Rattle.page_crew.specs.declared.shared_scanner.SharedScanner.{SharedScanner}
 
 module _ {S : Type 0} where
   -- as many boards, each with the id that the one of its number had
@@ -150,3 +155,30 @@ module _ {S : Type 0} where
   pub window_keeps : (window : ℕ) (a b : PageView S) → b ≡ page_with_window window a → KeepsIds a.boards b.boards
   window_keeps window a b is = subst (KeepsIds a.boards) (sym (ap (λ (p : PageView S). p.boards) is))
       (keeps_zip a.boards (map (with_window window) a.boards) (same_windowed window a.boards))
+
+-- what is so of a page's owner stays so, where the boards keep their ids
+module _ {N C H G : ℕ} (old : PageCrew N C H G) (page : PageView (SharedScanner N C H G)) (keeps : KeepsIds old.page.boards page.boards) where
+  abbrev pub Holds : (window : ℕ) (news : List (NewsRing N C H G)) → Type 0
+  Holds window news = record {
+    numbered : AreNumbered old.first page.boards;
+    low : old.first + 96 < 18446744073709551616;
+    kept : IsWindow window;
+    count : length old.rings.items ≡ N;
+    room : HaveRoom (length page.boards) old.rings.items;
+    size : IsBoardSize N C H G 1;
+    readers : length news ≤ 3;
+  }
+
+  pub held_with : (window : ℕ) (news : List (NewsRing N C H G)) → IsWindow window → length news ≤ 3 → Holds window news
+  held_with window news kept readers = record {
+    numbered = numbered_still old.first old.page.boards page.boards keeps old.numbered;
+    low = old.low;
+    kept = kept;
+    count = old.count;
+    room = room_still old.page.boards page.boards old.rings.items keeps old.room;
+    size = old.size;
+    readers = readers;
+  }
+
+  pub held_still : Holds old.window old.news.items
+  held_still = held_with old.window old.news.items old.kept old.readers

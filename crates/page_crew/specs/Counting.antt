@@ -1,15 +1,33 @@
 -- What one call of a page's recorder does to the recorders that it has.
 use Rattle.std.specs.Prelude.{◌≡◌, ◌≢◌, ℕ, ◌+◌, ◌<◌, List, [], ◌∷◌, ◌++◌, Some, length, slice_get, slice_set, All}
+use Rattle.bucket_math.specs.Bounds.{place_of}
 use Rattle.ledger_core.specs.Ops.{sum_ops}
 use Rattle.ledger_core.specs.Row.{Accepts}
 use Rattle.ledger_core.specs.declared.op.Op.{Op}
+use Rattle.ledger_core.specs.declared.op.Op.TheVariants.{Inc, Observe, Up, Down}
 use Rattle.register_rule.specs.Sums.{word_after}
 use Rattle.snapshot_update.specs.declared.faults.CountFault.{CountFault}
 use Rattle.snapshot_update.specs.declared.faults.CountFault.TheVariants.{WrongRegistry, Apply}
 use Rattle.snapshot_update.specs.Updated.{IsUpdated}
 use Rattle.snapshot_update.specs.Workers.{index_of, member_of, lists_of, IsApplyFault}
+use Rattle.page_crew.specs.declared.count.Count.{Count}
+use Rattle.page_crew.specs.declared.count.Count.TheVariants as Counts
 use Rattle.page_crew.specs.declared.shared_recorder.SharedRecorder.{SharedRecorder}
 use Rattle.page_crew.specs.Shared.{board_in, worker_in, id_in}
+
+-- of which registry the handle is by which something is counted
+abbrev pub registry_of : Count → ℕ
+registry_of (Counts.Inc counter by) = counter.now.registry
+registry_of (Counts.Observe hist value) = hist.now.registry
+registry_of (Counts.Up gauge by) = gauge.now.registry
+registry_of (Counts.Down gauge by) = gauge.now.registry
+
+-- which operation it is
+abbrev pub op_of : Count → Op
+op_of (Counts.Inc counter by) = Inc counter.now.slot by
+op_of (Counts.Observe hist value) = Observe hist.now.slot (place_of hist.now.bounds value) value
+op_of (Counts.Up gauge by) = Up gauge.now.slot by
+op_of (Counts.Down gauge by) = Down gauge.now.slot by
 
 module _ {N C H G : ℕ} where
   -- the recorders are those of the boards whose ids follow each other, from this one on

@@ -4,6 +4,7 @@
 mod appointing;
 mod calls;
 mod change;
+mod count;
 mod doing;
 mod fault;
 mod growing;

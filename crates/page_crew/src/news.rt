@@ -4,6 +4,7 @@ ghost use Rattle.rtrb.specs.Ring.{known_free};
 ghost use Rattle.page_crew.specs.Rings.{AreGiven};
 ghost use Rattle.page_crew.specs.News.{AreReady, AreBoardNews, IsChildNews, IsFamilyNews};
 
+use crate::rings::give;
 use crate::shared_scanner::SharedScanner;
 use metric_desc::Desc;
 use metric_names::{LabelValue, NoMemory};
@@ -134,9 +135,5 @@ pub(crate) fn tell<const N: usize, const C: usize, const H: usize, const G: usiz
     requires room { All (λ p. 0 < known_free p) rings.old }
     ensures { AreGiven rings.old rings.new news.entry.items }
 {
-    let mut place = 0;
-    for it in news {
-        rings[place].push_reserved(it);
-        place += 1;
-    }
+    give(rings, news);
 }

@@ -7,6 +7,7 @@ ghost use Rattle.rtrb.specs.Ring.{received};
 ghost use Rattle.page_crew.specs.Counting.{AreInRow, AreTaken};
 ghost use Rattle.std.proofs.Props.{props};
 
+use crate::count::Count;
 use crate::shared_recorder::SharedRecorder;
 use ledger_core::{Counter, Gauge, Histogram, Op};
 use rtrb::Consumer;
@@ -46,7 +47,7 @@ impl<const N: usize, const C: usize, const H: usize, const G: usize> PageRecorde
     ghost use Rattle.std.specs.Prelude.{List, [], ◌∷◌, ◌++◌};
     ghost use Rattle.rtrb.specs.Ring.{SameConsumer};
     ghost use Rattle.page_crew.specs.Held.{recorders_of, first_of, feed_of, HasNone};
-    ghost use Rattle.page_crew.specs.Counting.{IsPublishedOn, IsRefusedOn};
+    ghost use Rattle.page_crew.specs.Counting.{IsPublishedOn, IsRefusedOn, registry_of, op_of};
     ghost use Rattle.page_crew.specs.Settling.{CountsWith};
     ghost use Rattle.page_crew.specs.declared.shared_recorder.SharedRecorder.{SharedRecorder};
 
@@ -171,6 +172,24 @@ impl<const N: usize, const C: usize, const H: usize, const G: usize> PageRecorde
         }
     }
 
+    // Counts this on the board of its handle.
+    #[inline(always)]
+    fn count(&mut self, id: u64, what: Count) -> Result<(), CountFault>
+        requires of_it { id ≡ registry_of what }
+        ensures counted { OnOk result (IsPublishedOn id (op_of what.entry ∷ []) (recorders_of self.old) (recorders_of self.new)) }
+        ensures fault { IfErr result (IsRefusedOn id (op_of what.entry ∷ []) (recorders_of self.old) (recorders_of self.new)) }
+        ensures first { first_of self.new ≡ first_of self.old }
+        ensures feed { SameConsumer (feed_of self.old) (feed_of self.new) }
+    {
+        let Some(place) = self.find(id) else {
+            return Err(CountFault::WrongRegistry);
+        };
+        match self.recorders[place].count(what) {
+            Ok(()) => Ok(()),
+            Err(fault) => Err(fault),
+        }
+    }
+
     /// Adds `by` to a counter: one version of its board.
     ///
     /// # Errors
@@ -184,13 +203,7 @@ impl<const N: usize, const C: usize, const H: usize, const G: usize> PageRecorde
         ensures first { first_of self.new ≡ first_of self.old }
         ensures feed { SameConsumer (feed_of self.old) (feed_of self.new) }
     {
-        let Some(place) = self.find(counter.registry) else {
-            return Err(CountFault::WrongRegistry);
-        };
-        match self.recorders[place].inc(counter, by) {
-            Ok(()) => Ok(()),
-            Err(fault) => Err(fault),
-        }
+        self.count(counter.registry, Count::Inc(counter, by))
     }
 
     /// Adds 1 to a counter: [`PageRecorder::inc`].
@@ -222,13 +235,7 @@ impl<const N: usize, const C: usize, const H: usize, const G: usize> PageRecorde
         ensures first { first_of self.new ≡ first_of self.old }
         ensures feed { SameConsumer (feed_of self.old) (feed_of self.new) }
     {
-        let Some(place) = self.find(hist.registry) else {
-            return Err(CountFault::WrongRegistry);
-        };
-        match self.recorders[place].observe(hist, value) {
-            Ok(()) => Ok(()),
-            Err(fault) => Err(fault),
-        }
+        self.count(hist.registry, Count::Observe(hist, value))
     }
 
     /// Raises a gauge by `by`: one version of its board.
@@ -244,13 +251,7 @@ impl<const N: usize, const C: usize, const H: usize, const G: usize> PageRecorde
         ensures first { first_of self.new ≡ first_of self.old }
         ensures feed { SameConsumer (feed_of self.old) (feed_of self.new) }
     {
-        let Some(place) = self.find(gauge.registry) else {
-            return Err(CountFault::WrongRegistry);
-        };
-        match self.recorders[place].up(gauge, by) {
-            Ok(()) => Ok(()),
-            Err(fault) => Err(fault),
-        }
+        self.count(gauge.registry, Count::Up(gauge, by))
     }
 
     /// Lowers a gauge by `by`: one version of its board.
@@ -266,12 +267,6 @@ impl<const N: usize, const C: usize, const H: usize, const G: usize> PageRecorde
         ensures first { first_of self.new ≡ first_of self.old }
         ensures feed { SameConsumer (feed_of self.old) (feed_of self.new) }
     {
-        let Some(place) = self.find(gauge.registry) else {
-            return Err(CountFault::WrongRegistry);
-        };
-        match self.recorders[place].down(gauge, by) {
-            Ok(()) => Ok(()),
-            Err(fault) => Err(fault),
-        }
+        self.count(gauge.registry, Count::Down(gauge, by))
     }
 }

@@ -35,18 +35,15 @@ pub(crate) fn open_rings<const N: usize, const C: usize, const H: usize, const G
     Ok(Open { rings, recorders })
 }
 
-/// Gives each ring the next of these recorders.
-pub(crate) fn give<const N: usize, const C: usize, const H: usize, const G: usize>(
-    rings: &mut [Producer<SharedRecorder<N, C, H, G>>],
-    recorders: Vec<SharedRecorder<N, C, H, G>>,
-)
-    requires many { length recorders.items ≡ length rings.old }
+/// Gives each ring the next of these.
+pub(crate) fn give<T: Drop>(rings: &mut [Producer<T>], items: Vec<T>)
+    requires many { length items.items ≡ length rings.old }
     requires room { All (λ p. 0 < known_free p) rings.old }
-    ensures { AreGiven rings.old rings.new recorders.entry.items }
+    ensures { AreGiven rings.old rings.new items.items }
 {
     let mut place = 0;
-    for recorder in recorders {
-        rings[place].push_reserved(recorder);
+    for it in items {
+        rings[place].push_reserved(it);
         place += 1;
     }
 }

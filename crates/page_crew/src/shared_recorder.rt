@@ -10,6 +10,7 @@ ghost use Rattle.snapshot_update.specs.Updated.{IsUpdated};
 ghost use Rattle.snapshot_update.specs.Workers.{index_of, member_of, lists_of, IsWorkerOf, IsApplyFault, IsCounted, IsCountFault};
 ghost use Rattle.std.proofs.Props.{props};
 
+use crate::count::Count;
 use ledger_core::{Counter, Gauge, Histogram, Op, Row};
 use register_rule::Board;
 use snapshot_update::{ApplyFault, CountFault, Worker};
@@ -35,6 +36,7 @@ impl<const N: usize, const C: usize, const H: usize, const G: usize> Drop
 
 impl<const N: usize, const C: usize, const H: usize, const G: usize> SharedRecorder<N, C, H, G> {
     ghost use Rattle.page_crew.specs.Shared.{board_in, worker_in, id_in};
+    ghost use Rattle.page_crew.specs.Counting.{registry_of, op_of};
 
     /// That of this worker, on this board.
     pub fn new(
@@ -146,6 +148,23 @@ impl<const N: usize, const C: usize, const H: usize, const G: usize> SharedRecor
         ensures unchanged { OnErr result (member_of (worker_in self.new) ≡ member_of (worker_in self.old)) }
     {
         self.worker.down(&self.board, gauge, by)
+    }
+
+    // Counts this: one version.
+    #[inline(always)]
+    pub(crate) fn count(&mut self, what: Count) -> Result<(), CountFault>
+        ensures board { board_in self.new ≡ board_in self.old }
+        ensures index { index_of (worker_in self.new) ≡ index_of (worker_in self.old) }
+        ensures counted { OnOk result (IsCounted (id_in self.old) (registry_of what.entry) (op_of what.entry) (worker_in self.old) (worker_in self.new)) }
+        ensures fault { IfErr result (IsCountFault C H G (id_in self.old) (registry_of what.entry) (op_of what.entry) (member_of (worker_in self.old))) }
+        ensures unchanged { OnErr result (member_of (worker_in self.new) ≡ member_of (worker_in self.old)) }
+    {
+        match what {
+            Count::Inc(counter, by) => self.inc(counter, by),
+            Count::Observe(hist, value) => self.observe(hist, value),
+            Count::Up(gauge, by) => self.up(gauge, by),
+            Count::Down(gauge, by) => self.down(gauge, by),
+        }
     }
 
     /// Publishes these operations as one version, all of them or nothing. By whose handles they are is the caller's to know.

@@ -10,7 +10,7 @@ use Rattle.page_crew.specs.News.{NewsRing, NewsFeed, IsOver}
 use Rattle.page_crew.specs.Following.{news_in, BeginsOn, AreTuned}
 use Rattle.page_crew.specs.declared.page_scraper.PageScraper.{PageScraper}
 use Rattle.page_crew.specs.declared.shared_scanner.SharedScanner.{SharedScanner}
-use Rattle.page_crew.proofs.Seating.{next_all, all_more}
+use Rattle.snapshot_update.proofs.Seating.{next_all, all_more}
 use Rattle.page_crew.proofs.Telling.{tuned_more}
 use Rattle.page_crew.proofs.appointing.appoint.Goals as goal
 

@@ -1,7 +1,7 @@
 use Rattle.std.proofs.Common.{map, sym, ap, ◌∙◌}
 use Rattle.std.specs.Vec.Iter.{into_iter_items}
 use Rattle.page_crew.specs.News.{unboxed, of_board}
-use Rattle.page_crew.proofs.Seating.{one_over}
+use Rattle.snapshot_update.proofs.Seating.{one_over}
 use Rattle.page_crew.proofs.Telling.{nothing_left}
 use Rattle.page_crew.proofs.news.board_news.Goals as goal
 

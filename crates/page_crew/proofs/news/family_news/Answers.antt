@@ -3,7 +3,7 @@ use Rattle.std.specs.declared.alloc.Global.{Global}
 use Rattle.std.proofs.lemmas.List.{length_push}
 use Rattle.page_crew.specs.News.{unboxed, IsFamilyNews}
 use Rattle.page_crew.specs.declared.news.PageNews.{PageNews}
-use Rattle.page_crew.proofs.Seating.{all_more}
+use Rattle.snapshot_update.proofs.Seating.{all_more}
 use Rattle.page_crew.proofs.news.family_news.Goals as goal
 
 pub loop-ring-preserved : goal.loop-ring-preserved

@@ -7,7 +7,7 @@ use Rattle.snapshot_scan.specs.Readers.{IsReaderOf}
 use Rattle.snapshot_scan.specs.declared.reader.Reader.{Reader}
 use Rattle.page_crew.specs.News.{IsOver}
 use Rattle.page_crew.specs.declared.shared_scanner.SharedScanner.{SharedScanner}
-use Rattle.page_crew.proofs.Seating.{next_all, all_more}
+use Rattle.snapshot_update.proofs.Seating.{next_all, all_more}
 use Rattle.page_crew.proofs.opening.others_on.Goals as goal
 
 pub loop-reader-preserved : goal.loop-reader-preserved

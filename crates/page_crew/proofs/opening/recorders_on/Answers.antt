@@ -3,7 +3,7 @@ use Rattle.std.specs.Arc.{arc_value}
 use Rattle.std.specs.Vec.Iter.{into_iter_items}
 use Rattle.snapshot_update.specs.Workers.{IsWorkerOf}
 use Rattle.page_crew.specs.Shared.{board_in, worker_in}
-use Rattle.page_crew.proofs.Seating.{next_all, all_more, one_over}
+use Rattle.snapshot_update.proofs.Seating.{next_all, all_more, one_over}
 use Rattle.page_crew.proofs.opening.recorders_on.Goals as goal
 
 pub loop-worker-preserved : goal.loop-worker-preserved

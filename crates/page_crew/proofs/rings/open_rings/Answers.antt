@@ -9,7 +9,7 @@ use Rattle.page_crew.specs.Rings.{Ring, ArePaired}
 use Rattle.page_crew.specs.declared.page_recorder.PageRecorder.{PageRecorder}
 use Rattle.page_crew.specs.declared.shared_recorder.SharedRecorder.{SharedRecorder}
 use Rattle.page_crew.proofs.Giving.{paired_more}
-use Rattle.page_crew.proofs.Seating.{all_more}
+use Rattle.snapshot_update.proofs.Seating.{all_more}
 use Rattle.page_crew.proofs.rings.open_rings.Goals as goal
 
 pub loop-seat-preserved : goal.loop-seat-preserved

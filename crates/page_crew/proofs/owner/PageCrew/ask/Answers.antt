@@ -1,7 +1,7 @@
 use Rattle.std.proofs.Common.{refl, ◌∙◌, arith, inl, inr}
 use Rattle.std.proofs.lemmas.List.{with_items_is}
 use Rattle.page_crew.specs.News.{IsChildNews}
-use Rattle.page_crew.proofs.Steady.{KeepsIds, child_keeps, numbered_still, room_still}
+use Rattle.page_crew.proofs.Steady.{child_keeps, held_still}
 use Rattle.page_crew.proofs.Told.{may_tell, are_told, was_found, was_made, told_there}
 use Rattle.page_crew.proofs.owner.PageCrew.ask.Goals as goal
 
@@ -15,19 +15,9 @@ tell-requires g c =
 
 pub invariant_of-self : goal.invariant_of-self
 invariant_of-self g c =
-    let old = c.args.self.now in
-    let keeps : KeepsIds old.page.boards c.child.new.self.boards =
-    child_keeps g.row.C g.row.H g.row.G old.page c.child.new.self c.args.family.number c.args.values.now c.child.result
-    c.child.ensures.given c.child.ensures.leaves in
-    record {
-      numbered = numbered_still old.first old.page.boards c.child.new.self.boards keeps old.numbered;
-      low = old.low;
-      kept = old.kept;
-      count = old.count;
-      room = room_still old.page.boards c.child.new.self.boards old.rings.items keeps old.room;
-      size = old.size;
-      readers = old.readers;
-    }
+    held_still c.args.self.now c.child.new.self
+    (child_keeps g.row.C g.row.H g.row.G c.args.self.now.page c.child.new.self c.args.family.number c.args.values.now c.child.result
+    c.child.ensures.given c.child.ensures.leaves)
 
 pub returns-then-children_of-before-clause-told : goal.returns-then-children_of-before-clause-told
 returns-then-children_of-before-clause-told g c =

@@ -1,19 +1,9 @@
 use Rattle.page_crew.specs.Shared.{recorded_in, quit_in, gave_in, gave_up_in}
-use Rattle.page_crew.proofs.Steady.{KeepsIds, board_keeps, numbered_still, room_still}
+use Rattle.page_crew.proofs.Steady.{board_keeps, held_still}
 use Rattle.page_crew.proofs.owner.PageCrew.scrape_board.Goals as goal
 
 pub invariant_of-self : goal.invariant_of-self
 invariant_of-self g c =
-    let old = c.args.self.now in
-    let keeps : KeepsIds old.page.boards c.scrape_board.new.self.boards =
-    board_keeps g.row.N g.row.C g.row.H g.row.G recorded_in quit_in gave_in gave_up_in c.args.number old.page c.scrape_board.new.self
-    c.scrape_board.result c.scrape_board.ensures in
-    record {
-      numbered = numbered_still old.first old.page.boards c.scrape_board.new.self.boards keeps old.numbered;
-      low = old.low;
-      kept = old.kept;
-      count = old.count;
-      room = room_still old.page.boards c.scrape_board.new.self.boards old.rings.items keeps old.room;
-      size = old.size;
-      readers = old.readers;
-    }
+    held_still c.args.self.now c.scrape_board.new.self
+    (board_keeps g.row.N g.row.C g.row.H g.row.G recorded_in quit_in gave_in gave_up_in c.args.number c.args.self.now.page
+    c.scrape_board.new.self c.scrape_board.result c.scrape_board.ensures)

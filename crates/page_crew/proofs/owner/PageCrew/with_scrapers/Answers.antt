@@ -68,14 +68,12 @@ give-requires g c =
     let theirs = c.in-Ok.made.recorders.items in
     let same : c.deref_mut.result.now ≡ c.in-Ok-open_rings.field-0.rings.items = c.deref_mut.ensures.value in
     let all : length theirs ≡ g.row.N =
-    sym (length-map theirs index_in) ∙ (ap length c.in-Ok.ensures.new.workers ∙ length-range_with_len 0 g.row.N) in (
-      omega arith,
-      (
-        all ∙ (sym opened.rings_many ∙ sym (ap length same)),
-        subst (λ (l : List R). All (λ (p : R). 0 < known_free p) l) (sym same)
-            (λ k (d : R) within. let is = (opened.empty k d within).1 in omega (arith, is)),
-      ),
-    )
+    sym (length-map theirs index_in) ∙ (ap length c.in-Ok.ensures.new.workers ∙ length-range_with_len 0 g.row.N) in
+    record {
+      many = all ∙ (sym opened.rings_many ∙ sym (ap length same));
+      room = subst (λ (l : List R). All (λ (p : R). 0 < known_free p) l) (sym same)
+          (λ k (d : R) within. let is = (opened.empty k d within).1 in omega (arith, is));
+    }
 
 pub invariant_of-crew : goal.invariant_of-crew
 invariant_of-crew g c =
