@@ -1,7 +1,6 @@
 mod Answering
 mod Wrapping
-mod Reading
-mod Seating
+pub mod Reading
 mod Published
 mod Spacing
 pub mod Moment

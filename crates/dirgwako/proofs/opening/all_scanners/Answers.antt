@@ -3,7 +3,7 @@ use Rattle.std.specs.Vec.Iter.{into_iter_items}
 use Rattle.snapshot_scan.specs.Readers.{IsReaderOf}
 use Rattle.snapshot_scan.specs.Scanners.{reader_in}
 use Rattle.dirgwako.specs.Scanning.{ScansOn}
-use Rattle.dirgwako.proofs.Seating.{next_all, all_more, one_over}
+use Rattle.snapshot_update.proofs.Seating.{next_all, all_more, one_over}
 use Rattle.dirgwako.proofs.opening.all_scanners.Goals as goal
 
 pub loop-reader-preserved : goal.loop-reader-preserved
