@@ -13,7 +13,7 @@ use Rattle.scrape_page.specs.Families.{PageView}
 use Rattle.scrape_page.specs.Scraping.{BoardAloneScrapes}
 use Rattle.scrape_server.specs.Scrapes.{Scrapes}
 use Rattle.scrape_server.proofs.Askings.{at_end}
-use Rattle.dirgwako_c.specs.Numbers.{Board, Reads, numbers_of, no_scrape_number}
+use Rattle.dirgwako_c.specs.Numbers.{Board, Reads, ReadsBoard, numbers_of, no_scrape_number}
 use Rattle.dirgwako_c.specs.Registries.{Owner, IsHandedOver, owner_in, page_in, SparesStay, TellsNobody}
 use Rattle.dirgwako_c.specs.declared.held.HeldRegistry.{HeldRegistry}
 use Rattle.dirgwako_c.proofs.Places.{same_there, set_now}
@@ -52,36 +52,11 @@ module _ {N C H G : ℕ} where
         let is = same_there (slice_get (page_in after).boards number) did.1.after board (now_there (Ok scrape) did) there in
         subst (λ (b : Board N C H G). IsSome b.state.last) is (subst (λ (o : Option Answer). IsSome o) (sym last) refl)
 
-    module _ (answer : ℕ) (had has : List ℕ) (had_len has_len : ℕ) (stay : SparesStay before after)
-        (untold : TellsNobody (owner_in before) (owner_in after)) where
-      pub read_made : (scrape : Scraped) → Alone (Ok scrape) → (board : Board N C H G) (moment : Answer)
-          → slice_get (page_in after).boards number ≡ Some board → board.state.last ≡ Some moment
-          → IsHandedOver (numbers_of board.id moment) answer had has has_len
-          → Reads number answer before after had has had_len has_len
-      read_made scrape did board moment there last handed =
-          let is = sym (same_there (slice_get (page_in after).boards number) did.1.after board (now_there (Ok scrape) did) there) in (
-            stay,
-            inl (record {
-              old = did.1.before;
-              new = did.1.after;
-              at = did.1.at;
-              page = (did.0, did.1.new_is, did.2);
-              untold = untold;
-              did = record {
-                made = Ok tt;
-                asks = (scrape, did.1.scrapes);
-                reads = (
-                  moment,
-                  subst (λ (b : Board N C H G). b.state.last ≡ Some moment) is last,
-                  subst (λ (b : Board N C H G). IsHandedOver (numbers_of b.id moment) answer had has has_len) is handed,
-                );
-              };
-            }),
-          )
-
-    pub read_none : (why : NoScrape) (answer : ℕ) (had : List ℕ) (had_len : ℕ) → SparesStay before after
-        → TellsNobody (owner_in before) (owner_in after) → Alone (Err why) → answer ≡ no_scrape_number why → Reads number answer before after had had had_len had_len
-    read_none why answer had had_len stay untold did told = (
+    read_alone : (result : Result Scraped NoScrape) (answer : ℕ) (had has : List ℕ) (had_len has_len : ℕ) → SparesStay before after
+        → TellsNobody (owner_in before) (owner_in after) → (did : Alone result)
+        → ReadsBoard did.1.before did.1.after answer had has had_len has_len
+        → Reads number answer before after had has had_len has_len
+    read_alone result answer had has had_len has_len stay untold did reads = (
       stay,
       inl (record {
         old = did.1.before;
@@ -89,10 +64,42 @@ module _ {N C H G : ℕ} where
         at = did.1.at;
         page = (did.0, did.1.new_is, did.2);
         untold = untold;
-        did = record {
+        did = reads;
+      }),
+    )
+
+    module _ (answer : ℕ) (had has : List ℕ) (had_len has_len : ℕ) (stay : SparesStay before after)
+        (untold : TellsNobody (owner_in before) (owner_in after)) where
+      pub read_made : (scrape : Scraped) → Alone (Ok scrape) → (board : Board N C H G) (moment : Answer)
+          → slice_get (page_in after).boards number ≡ Some board → board.state.last ≡ Some moment
+          → IsHandedOver (numbers_of board.id moment) answer had has has_len
+          → Reads number answer before after had has had_len has_len
+      read_made scrape did board moment there last handed =
+          let is = sym (same_there (slice_get (page_in after).boards number) did.1.after board (now_there (Ok scrape) did) there) in
+          read_alone (Ok scrape) answer had has had_len has_len stay untold did (record {
+            made = Ok tt;
+            asks = (scrape, did.1.scrapes);
+            reads = (
+              moment,
+              subst (λ (b : Board N C H G). b.state.last ≡ Some moment) is last,
+              subst (λ (b : Board N C H G). IsHandedOver (numbers_of b.id moment) answer had has has_len) is handed,
+            );
+          })
+
+    pub read_none : (why : NoScrape) (answer : ℕ) (had : List ℕ) (had_len : ℕ) → SparesStay before after
+        → TellsNobody (owner_in before) (owner_in after) → Alone (Err why) → answer ≡ no_scrape_number why → Reads number answer before after had had had_len had_len
+    read_none why answer had had_len stay untold did told =
+        read_alone (Err why) answer had had had_len had_len stay untold did (record {
           made = Err why;
           asks = did.1.scrapes;
           reads = (told, refl, refl);
-        };
-      }),
-    )
+        })
+
+  -- the same, where the owner alone is another
+  pub none_read : (before : HeldRegistry N C H G) (crew : Owner N C H G) (number : ℕ) (why told : NoScrape) (answer : ℕ) (had : List ℕ) (had_len : ℕ)
+      → TellsNobody (owner_in before) crew → told ≡ why → AsksAlone (owner_in before) crew number (Err told) → answer ≡ no_scrape_number why
+      → Reads number answer before (record before { registrar = record before.registrar { at = record before.registrar.at { crew = crew } } })
+      had had had_len had_len
+  none_read before crew number why told answer had had_len untold is did number_is =
+      read_none before (record before { registrar = record before.registrar { at = record before.registrar.at { crew = crew } } }) number why answer
+      had had_len (refl, refl) untold (subst (λ (w : NoScrape). AsksAlone (owner_in before) crew number (Err w)) is did) number_is

@@ -8,8 +8,8 @@ pub mod Moved
 pub mod Newest
 pub mod Places
 pub mod Reading
+pub mod Replied
 pub mod Rows
-pub mod Seating
 pub mod Sending
 pub mod Settled
 pub mod Values

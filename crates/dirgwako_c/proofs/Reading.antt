@@ -1,28 +1,9 @@
 -- Texts and changes that C hands in, one by one.
-use Rattle.std.proofs.Common.{◌≡◌, ℕ, ◌+◌, ◌<◌, List, [], ◌∷◌, ◌++◌, Bor, All, map, take, length, get_or, ap, sym, subst, ◌∙◌, arith}
-use Rattle.std.proofs.lemmas.List.{take_more, take-map, take_all, get_or-map, length-map, map-append}
-use Rattle.std.proofs.lemmas.List.Elements.{All-push}
+use Rattle.std.proofs.Common.{◌≡◌, ℕ, ◌+◌, ◌<◌, List, [], ◌∷◌, ◌++◌, Bor, All, map, take, length, get_or, ap, sym, ◌∙◌, arith}
+use Rattle.std.proofs.lemmas.List.{take_more, take-map, get_or-map, length-map, map-append}
 use mathlib.Core.Option.{some}
 use Rattle.register_rule.proofs.Words.{there, from_all}
 use Rattle.dirgwako.specs.Texts.{text_at, texts_of}
-
--- one text more
-pub more_texts : (items : List (Bor (List ℕ))) (i : ℕ) (d : Bor (List ℕ)) → i < length items
-    → take (i + 1) (texts_of items) ≡ take i (texts_of items) ++ text_at (get_or items i d) ∷ []
-more_texts items i d lt =
-    take-map text_at (i + 1) items
-    ∙ (ap (map text_at) (take_more items i d lt) ∙ (map-append text_at (take i items) (get_or items i d ∷ [])
-    ∙ ap (λ (l : List (List ℕ)). l ++ text_at (get_or items i d) ∷ []) (sym (take-map text_at i items))))
-
--- all texts
-pub all_texts : (items : List (Bor (List ℕ))) (i : ℕ) → length items ≡ i → take i (texts_of items) ≡ texts_of items
-all_texts items i e = take_all i (texts_of items) (omega (arith, e, length-map items text_at))
-
--- one more good one
-pub more_good : (P : List ℕ → Type 0) (items : List (Bor (List ℕ))) (i : ℕ) (d : Bor (List ℕ)) → i < length items
-    → All P (take i (texts_of items)) → P (text_at (get_or items i d)) → All P (take (i + 1) (texts_of items))
-more_good P items i d lt all p = subst (λ (l : List (List ℕ)). All P l) (sym (more_texts items i d lt))
-    (All-push P (take i (texts_of items)) (text_at (get_or items i d)) all p)
 
 -- what is so of all texts is so of one
 pub good_there : (P : List ℕ → Type 0) (items : List (Bor (List ℕ))) (i : ℕ) (d : Bor (List ℕ)) → i < length items

@@ -1,5 +1,5 @@
 -- Recorders that nobody has, and what they have published together on one board.
-use Rattle.std.proofs.Common.{◌≡◌, ℕ, zero, suc, ◌+◌, ◌<◌, ◌≤◌, List, [], ◌∷◌, ◌++◌, All, length, map, drop, set, inl, inr, refl, sym, ap, ◌∙◌, arith}
+use Rattle.std.proofs.Common.{◌≡◌, ℕ, zero, suc, ◌+◌, ◌<◌, ◌≤◌, List, [], ◌∷◌, ◌++◌, All, length, map, drop, inl, inr, refl, sym, ap, ◌∙◌, arith}
 use Rattle.std.specs.Prelude.{Option, Some, slice_get}
 use Rattle.std.proofs.lemmas.Option.{slice_get_cases}
 use Rattle.std.proofs.lemmas.List.Elements.{All-head, All-tail}
@@ -13,6 +13,7 @@ use Rattle.snapshot_update.specs.Workers.{member_of}
 use Rattle.chain_law.proofs.Totals.{one_more}
 use Rattle.page_crew.specs.Held.{recorders_of}
 use Rattle.page_crew.specs.Shared.{worker_in}
+use Rattle.page_crew.proofs.Places.{drop_next, mapped_at}
 use Rattle.dirgwako_c.specs.Registries.{recorder_in}
 use Rattle.dirgwako_c.specs.Settling.{OneWorker, OneSeat, alone, seats_on, Knows, workers_of, published_in}
 use Rattle.dirgwako_c.specs.declared.held.HeldRecorder.{HeldRecorder}
@@ -21,12 +22,6 @@ module _ {N C H G : ℕ} where
   -- its worker
   abbrev pub its : OneSeat N C H G → OneWorker N C H G
   its r = worker_in r
-
--- the items from a place on are the one at the place, and those behind it
-drop_next : {A : Type 0} (l : List A) (p : ℕ) (x : A) → get_elem? l p ≡ some x → drop p l ≡ x ∷ drop (suc p) l
-drop_next [] p x e = absurd (some-ne-none x (sym e))
-drop_next (y ∷ l) zero x e = ap (λ z. z ∷ l) (some-injective y x e)
-drop_next (y ∷ l) (suc p) x e = drop_next l p x e
 
 -- what is dropped twice
 drop_none : {A : Type 0} (a : ℕ) → drop {A = A} a [] ≡ []
@@ -38,23 +33,10 @@ drop_both a zero l = ap (λ (n : ℕ). drop n l) (omega arith)
 drop_both a (suc b) [] = drop_none a ∙ sym (drop_none (a + suc b))
 drop_both a (suc b) (x ∷ l) = drop_both a b l ∙ ap (λ (n : ℕ). drop n (x ∷ l)) {x = suc (a + b)} {y = a + suc b} (omega arith)
 
--- an item of a list that was mapped
-mapped_at : {A B : Type 0} (f : A → B) (l : List A) (p : ℕ) (y : B) → get_elem? (map f l) p ≡ some y
-    → (x : A) × (get_elem? l p ≡ some x) × (f x ≡ y)
-mapped_at f [] p y e = absurd (some-ne-none y (sym e))
-mapped_at f (x ∷ l) zero y e = (x, refl, some-injective (f x) y e)
-mapped_at f (x ∷ l) (suc p) y e = mapped_at f l p y e
-
 pub mapped_here : {A B : Type 0} (f : A → B) (l : List A) (p : ℕ) (x : A) → get_elem? l p ≡ some x → get_elem? (map f l) p ≡ some (f x)
 mapped_here f [] p x e = absurd (some-ne-none x (sym e))
 mapped_here f (y ∷ l) zero x e = ap (λ z. some (f z)) (some-injective y x e)
 mapped_here f (y ∷ l) (suc p) x e = mapped_here f l p x e
-
--- the item that was put at a place
-pub set_here : {A : Type 0} (l : List A) (i : ℕ) (a : A) → i < length l → get_elem? (set l i a) i ≡ some a
-set_here [] i a lt = absurd (omega (arith, lt))
-set_here (x ∷ l) zero a lt = refl
-set_here (x ∷ l) (suc i) a lt = set_here l i a (omega (arith, lt))
 
 module _ {N C H G : ℕ} where
   -- the worker of a recorder stands at its place

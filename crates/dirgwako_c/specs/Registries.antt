@@ -1,11 +1,12 @@
 -- What the calls of C by a registry's handle come to.
 use Rattle.std.specs.Prelude.{Bool, true, false, ◌≡◌, ◌≢◌, ◌⊎◌, ℕ, ◌+◌, ◌*◌, ◌<◌, ◌≤◌, List, [], ◌∷◌, ◌++◌, map, length, drop, All, Option, Some, None, Result, Ok, Err, IfOk, OnErr, IsSomeAnd, IsUtf8, Box}
+use Rattle.std.specs.Borrow.{Bor}
 use Rattle.std.specs.declared.alloc.Global.{Global}
 use Rattle.dirgwako.specs.Paged.{RegistersOnPage, GivesOnPage}
 use Rattle.dirgwako.specs.Printing.{IsText, IsTextFault, text_fault_number}
 use Rattle.dirgwako.specs.declared.paged.OnPage.{OnPage}
 use Rattle.dirgwako.specs.declared.printing.TextFault.{TextFault}
-use Rattle.dirgwako.specs.Registering.{AsksFamily, AsksChild, AsksMetric}
+use Rattle.dirgwako.specs.Registering.{AsksFamily, AsksChild, AsksMetric, shifted_family_of}
 use Rattle.dirgwako.specs.Refused.{family_refusal_number, child_refusal_number}
 use Rattle.dirgwako.specs.declared.fault.ChildRefusal.{ChildRefusal}
 use Rattle.dirgwako.specs.declared.fault.FamilyRefusal.{FamilyRefusal}
@@ -14,6 +15,7 @@ use Rattle.dirgwako.specs.declared.fault.MetricRefusal.TheVariants as metric
 use Rattle.expo_text.specs.Scraped.{Scraped}
 use Rattle.metric_desc.specs.Desc.{Descriptor}
 use Rattle.metric_desc.specs.declared.kind.Kind.{Kind}
+use Rattle.metric_desc.specs.declared.kind.Kind.TheVariants as Kinds
 use Rattle.page_crew.specs.Held.{first_of as first_board_of}
 use Rattle.page_crew.specs.Following.{ScrapesByScraper}
 use Rattle.page_crew.specs.Owned.{first_of, page_of, IsOpened, IsUnchanged, KeepsFromNow, ScrapesByCrew}
@@ -32,6 +34,8 @@ use Rattle.scrape_http.specs.declared.serve.Served.{Served}
 use Rattle.scrape_http.specs.declared.source.NoScrape.{NoScrape}
 use Rattle.scrape_page.specs.Families.{PageView}
 use Rattle.dirgwako_c.specs.Held.{answer_of}
+use Rattle.dirgwako_c.specs.declared.family.Asked.{Asked}
+use Rattle.dirgwako_c.specs.declared.family.Asked.TheVariants as asked
 use Rattle.dirgwako_c.specs.declared.held.HeldRecorder.{HeldRecorder}
 use Rattle.dirgwako_c.specs.declared.held.HeldRegistry.{HeldRegistry}
 use Rattle.dirgwako_c.specs.declared.held.HeldScraper.{HeldScraper}
@@ -101,6 +105,16 @@ module _ {N C H G : ℕ} where
 abbrev pub IsNewAnswer : (N C H G : ℕ) → (window scrapers answer : ℕ) → Type 0
 IsNewAnswer N C H G window scrapers answer = (¬ (IsWindow window) × (answer ≡ 31))
     ⊎ (IsWindow window × (((answer ≡ 6) × IsBoardSize N C H G (1 + scrapers)) ⊎ ((answer ≡ 13) × ¬ (IsBoardSize N C H G (1 + scrapers)))))
+
+-- the kind of family that is asked for, and its bounds: only a histogram has any
+abbrev pub shape_of : Asked → Kind × List ℕ
+shape_of asked.Counter = (Kinds.Counter, [])
+shape_of asked.Gauge = (Kinds.Gauge, [])
+shape_of (asked.Histogram bounds) = (Kinds.Histogram, bounds.now)
+
+-- the family that is asked for by these texts
+abbrev pub said_of : Asked → (name help : List ℕ) → (labels : List (Bor (List ℕ))) → (digits : ℕ) → Descriptor
+said_of kind name help labels digits = shifted_family_of (shape_of kind).0 name help labels (shape_of kind).1 digits
 
 -- the number of each reason for which there is no metric without labels: 48 where its family is registered from now on and its child is not made,
 -- for want of a slot or of memory

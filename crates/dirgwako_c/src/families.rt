@@ -1,33 +1,74 @@
 //! What C calls to register families with labels, and to have their children.
-ghost use Rattle.std.specs.Prelude.{◌≡◌, []};
+ghost use Rattle.std.specs.Prelude.{◌≡◌, [], Result, IfErr, IfOk};
 ghost use Rattle.dirgwako.specs.Registering.{shifted_family_of};
 ghost use Rattle.dirgwako.specs.Texts.{texts_of};
 ghost use Rattle.metric_desc.specs.declared.kind.Kind.TheVariants as Kinds;
+ghost use Rattle.page_crew.specs.Owned.{first_of};
 ghost use Rattle.registry_state.specs.declared.handle.Handle.TheVariants as Handles;
 ghost use Rattle.dirgwako_c.specs.Held.{Calls};
-ghost use Rattle.dirgwako_c.specs.Registries.{grouped_in, SparesStay, MakesFamilyBy, MakesShifted, GivesChildBy};
+ghost use Rattle.dirgwako_c.specs.Registries.{grouped_in, said_of, AsksFamilyAt, SparesStay, MakesFamilyBy, MakesShifted, GivesChildBy};
 
-use crate::family::{CounterFamily, GaugeFamily, HistogramFamily};
+use crate::family::{Asked, CounterFamily, Family, GaugeFamily, HistogramFamily};
 use crate::handles::RegistryHandle;
 use crate::texts::{text, texts};
-use dirgwako::{OnPage, Registrar};
+use dirgwako::{FamilyRefusal, OnPage, Refused, Registrar};
 use ledger_core::{Counter, Gauge, Histogram};
 use std::alloc::Global;
 
-/// A family of counters of a registry.
-fn counter_family_in<const N: usize, const C: usize, const H: usize, const G: usize>(
+/// Asks for a family by plain texts.
+fn ask<const N: usize, const C: usize, const H: usize, const G: usize>(
+    registrar: &mut Registrar<OnPage<N, C, H, G>>,
+    asked: Asked<'_>,
+    name: &str,
+    help: &str,
+    labels: &[&str],
+    digits: u8,
+) -> Result<Family, Refused<FamilyRefusal>>
+    ensures made { IfOk result (λ family. AsksFamilyAt registrar.old.at registrar.new.at
+        (said_of asked.entry name.now help.now labels.now digits) (Result.Ok family.id)) }
+    ensures registry { IfOk result (λ family. family.registry ≡ first_of registrar.new.at.crew) }
+    ensures fault { IfErr result (λ refused. AsksFamilyAt registrar.old.at registrar.new.at
+        (said_of asked.entry name.now help.now labels.now digits) (Result.Err refused.fault)) }
+{
+    match asked {
+        Asked::Counter => {
+            let made = registrar.counter_family_shifted(name, help, labels, digits)?;
+            Ok(Family {
+                registry: made.registry,
+                id: made.id,
+            })
+        }
+        Asked::Gauge => {
+            let made = registrar.gauge_family_shifted(name, help, labels, digits)?;
+            Ok(Family {
+                registry: made.registry,
+                id: made.id,
+            })
+        }
+        Asked::Histogram(bounds) => {
+            let made = registrar.histogram_family_shifted(name, help, labels, bounds, digits)?;
+            Ok(Family {
+                registry: made.registry,
+                id: made.id,
+            })
+        }
+    }
+}
+
+/// A family of a registry.
+fn family_in<const N: usize, const C: usize, const H: usize, const G: usize>(
     alloc: Global,
     registrar: &mut Registrar<OnPage<N, C, H, G>>,
+    asked: Asked<'_>,
     name: &[u8],
     help: &[u8],
     labels: &[&[u8]],
     digits: u8,
     group: u64,
-    family: &mut CounterFamily,
+    family: &mut Family,
 ) -> u32
     ensures { MakesFamilyBy result registrar.old.at registrar.new.at family.old family.new group (λ family. family.id)
-        (λ family. family.registry) name.now help.now (texts_of labels.now)
-        (shifted_family_of Kinds.Counter name.now help.now labels.now [] digits) }
+        (λ family. family.registry) name.now help.now (texts_of labels.now) (said_of asked.entry name.now help.now labels.now digits) }
 {
     let (Some(name), Some(help)) = (text(name), text(help)) else {
         return 36;
@@ -37,16 +78,53 @@ fn counter_family_in<const N: usize, const C: usize, const H: usize, const G: us
         Err(answer) => return answer,
     };
     registrar.at.group = group;
-    match registrar.counter_family_shifted(name, help, &labels, digits) {
+    match ask(registrar, asked, name, help, &labels, digits) {
         Ok(made) => {
-            *family = CounterFamily {
-                registry: made.registry,
-                id: made.id,
-            };
+            *family = made;
             0
         }
         Err(refused) => u32::from(refused.number()),
     }
+}
+
+/// A family of the registry that a handle holds.
+fn family_new(
+    alloc: Global,
+    registry: &mut RegistryHandle,
+    asked: Asked<'_>,
+    name: &[u8],
+    help: &[u8],
+    labels: &[&[u8]],
+    digits: usize,
+    group: usize,
+    family: &mut Family,
+) -> u32
+    ensures { Calls (family.new ≡ family.old) (λ before after. SparesStay before after
+        × MakesShifted result (grouped_in before) (grouped_in after) family.old family.new digits
+        (MakesFamilyBy result (grouped_in before) (grouped_in after) family.old family.new group (λ family. family.id)
+        (λ family. family.registry) name.now help.now (texts_of labels.now)
+        (said_of asked.entry name.now help.now labels.now digits))) result registry.old.value registry.new.value }
+{
+    let Some(mut held) = registry.take(alloc) else {
+        return 34;
+    };
+    let answer = if digits > 9 {
+        43
+    } else {
+        family_in(
+            alloc,
+            &mut held.registrar,
+            asked,
+            name,
+            help,
+            labels,
+            digits as u8,
+            group as u64,
+            family,
+        )
+    };
+    registry.put(alloc, held);
+    answer
 }
 
 /// A family of counters with labels.
@@ -70,25 +148,17 @@ pub extern "C" fn dirgwako_c_counter_family_new(
         (λ family. family.registry) name.now help.now (texts_of labels.now)
         (shifted_family_of Kinds.Counter name.now help.now labels.now [] digits))) result registry.old.value registry.new.value }
 {
-    let Some(mut held) = registry.take(alloc) else {
-        return 34;
-    };
-    let answer = if digits > 9 {
-        43
-    } else {
-        counter_family_in(
-            alloc,
-            &mut held.registrar,
-            name,
-            help,
-            labels,
-            digits as u8,
-            group as u64,
-            family,
-        )
-    };
-    registry.put(alloc, held);
-    answer
+    family_new(
+        alloc,
+        registry,
+        Asked::Counter,
+        name,
+        help,
+        labels,
+        digits,
+        group,
+        family,
+    )
 }
 
 /// The counter of these label values, which is made where there is none.
@@ -142,41 +212,6 @@ pub extern "C" fn dirgwako_c_counter_of(
     answer
 }
 
-/// A family of gauges of a registry.
-fn gauge_family_in<const N: usize, const C: usize, const H: usize, const G: usize>(
-    alloc: Global,
-    registrar: &mut Registrar<OnPage<N, C, H, G>>,
-    name: &[u8],
-    help: &[u8],
-    labels: &[&[u8]],
-    digits: u8,
-    group: u64,
-    family: &mut GaugeFamily,
-) -> u32
-    ensures { MakesFamilyBy result registrar.old.at registrar.new.at family.old family.new group (λ family. family.id)
-        (λ family. family.registry) name.now help.now (texts_of labels.now)
-        (shifted_family_of Kinds.Gauge name.now help.now labels.now [] digits) }
-{
-    let (Some(name), Some(help)) = (text(name), text(help)) else {
-        return 36;
-    };
-    let labels = match texts(alloc, labels) {
-        Ok(labels) => labels,
-        Err(answer) => return answer,
-    };
-    registrar.at.group = group;
-    match registrar.gauge_family_shifted(name, help, &labels, digits) {
-        Ok(made) => {
-            *family = GaugeFamily {
-                registry: made.registry,
-                id: made.id,
-            };
-            0
-        }
-        Err(refused) => u32::from(refused.number()),
-    }
-}
-
 /// A family of gauges with labels.
 ///
 /// Answers 34, the handle is empty; 43, `digits` is over 9; 36, a text is not UTF-8; 1 to 5, 9, 7 of the texts; 19,
@@ -198,25 +233,17 @@ pub extern "C" fn dirgwako_c_gauge_family_new(
         (λ family. family.registry) name.now help.now (texts_of labels.now)
         (shifted_family_of Kinds.Gauge name.now help.now labels.now [] digits))) result registry.old.value registry.new.value }
 {
-    let Some(mut held) = registry.take(alloc) else {
-        return 34;
-    };
-    let answer = if digits > 9 {
-        43
-    } else {
-        gauge_family_in(
-            alloc,
-            &mut held.registrar,
-            name,
-            help,
-            labels,
-            digits as u8,
-            group as u64,
-            family,
-        )
-    };
-    registry.put(alloc, held);
-    answer
+    family_new(
+        alloc,
+        registry,
+        Asked::Gauge,
+        name,
+        help,
+        labels,
+        digits,
+        group,
+        family,
+    )
 }
 
 /// The gauge of these label values, which is made where there is none.
@@ -270,42 +297,6 @@ pub extern "C" fn dirgwako_c_gauge_of(
     answer
 }
 
-/// A family of histograms of a registry with these bounds: at most 24, rising, none over 2^48 - 1.
-fn histogram_family_in<const N: usize, const C: usize, const H: usize, const G: usize>(
-    alloc: Global,
-    registrar: &mut Registrar<OnPage<N, C, H, G>>,
-    name: &[u8],
-    help: &[u8],
-    labels: &[&[u8]],
-    bounds: &[u64],
-    digits: u8,
-    group: u64,
-    family: &mut HistogramFamily,
-) -> u32
-    ensures { MakesFamilyBy result registrar.old.at registrar.new.at family.old family.new group (λ family. family.id)
-        (λ family. family.registry) name.now help.now (texts_of labels.now)
-        (shifted_family_of Kinds.Histogram name.now help.now labels.now bounds.now digits) }
-{
-    let (Some(name), Some(help)) = (text(name), text(help)) else {
-        return 36;
-    };
-    let labels = match texts(alloc, labels) {
-        Ok(labels) => labels,
-        Err(answer) => return answer,
-    };
-    registrar.at.group = group;
-    match registrar.histogram_family_shifted(name, help, &labels, bounds, digits) {
-        Ok(made) => {
-            *family = HistogramFamily {
-                registry: made.registry,
-                id: made.id,
-            };
-            0
-        }
-        Err(refused) => u32::from(refused.number()),
-    }
-}
-
 /// A family of histograms with labels with these bounds: at most 24, rising, none over 2^48 - 1.
 ///
 /// Answers 34, the handle is empty; 43, `digits` is over 9; 36, a text is not UTF-8; 1 to 5, 9, 7 of the texts; 8, 10 of the bounds; 19, 23, 6 as
@@ -328,26 +319,17 @@ pub extern "C" fn dirgwako_c_histogram_family_new(
         (λ family. family.registry) name.now help.now (texts_of labels.now)
         (shifted_family_of Kinds.Histogram name.now help.now labels.now bounds.now digits))) result registry.old.value registry.new.value }
 {
-    let Some(mut held) = registry.take(alloc) else {
-        return 34;
-    };
-    let answer = if digits > 9 {
-        43
-    } else {
-        histogram_family_in(
-            alloc,
-            &mut held.registrar,
-            name,
-            help,
-            labels,
-            bounds,
-            digits as u8,
-            group as u64,
-            family,
-        )
-    };
-    registry.put(alloc, held);
-    answer
+    family_new(
+        alloc,
+        registry,
+        Asked::Histogram(bounds),
+        name,
+        help,
+        labels,
+        digits,
+        group,
+        family,
+    )
 }
 
 /// The histogram of these label values, which is made where there is none.

@@ -1,7 +1,7 @@
 use Rattle.std.proofs.Common.{◌∙◌}
 use Rattle.std.specs.Vec.Iter.{into_iter_items}
 use Rattle.dirgwako_c.specs.Registries.{recorder_in, recorders_in}
-use Rattle.dirgwako_c.proofs.Seating.{one_over}
+use Rattle.snapshot_update.proofs.Seating.{one_over}
 use Rattle.dirgwako_c.proofs.opening.spare_of.Goals as goal
 
 pub loop-recorder-preserved : goal.loop-recorder-preserved

@@ -1,12 +1,11 @@
 use Rattle.std.proofs.Common.{ℕ, refl, ap, subst, ◌∙◌}
-use Rattle.std.specs.Prelude.{Ok, Err}
-use Rattle.scrape_http.specs.declared.source.NoScrape.{NoScrape}
+use Rattle.std.specs.Prelude.{Ok}
 use Rattle.scrape_http.specs.declared.source.NoScrape.TheVariants.{NoMemory, Contended}
 use Rattle.scrape_page.specs.Families.{PageView}
 use Rattle.snapshot_scan.specs.Snapshots.{as_answer}
 use Rattle.dirgwako_c.specs.Numbers.{OneScanner, numbers_of}
 use Rattle.dirgwako_c.specs.Registries.{IsHandedOver, owner_in}
-use Rattle.dirgwako_c.proofs.Alone.{AsksAlone, board_there, read_made, read_none}
+use Rattle.dirgwako_c.proofs.Alone.{AsksAlone, board_there, read_made, none_read}
 use Rattle.dirgwako_c.proofs.readings.read_to.Goals as goal
 
 pub returns-in-Ok : goal.returns-in-Ok
@@ -28,18 +27,10 @@ returns-in-Ok g c =
 
 pub returns-in-Err-NoMemory : goal.returns-in-Err-NoMemory
 returns-in-Err-NoMemory g c =
-    let before = c.args.registry.now in let number : ℕ = c.args.number in
-    let at = record before.registrar.at { crew = c.keep_board.new.self } in
-    let asked = record before { registrar = record before.registrar { at = at } } in
-    read_none before asked number NoMemory 6 c.args.buffer.now c.args.len.now (refl, refl) c.in-Err-NoMemory.ensures.untold
-    (subst (λ (why : NoScrape). AsksAlone (owner_in before) c.keep_board.new.self number (Err why)) c.in-Err-NoMemory.field-0-is
-    c.in-Err-NoMemory.ensures.scraped) refl
+    none_read c.args.registry.now c.keep_board.new.self c.args.number NoMemory _ 6 c.args.buffer.now c.args.len.now
+    c.in-Err-NoMemory.ensures.untold c.in-Err-NoMemory.field-0-is c.in-Err-NoMemory.ensures.scraped refl
 
 pub returns-in-Err-Contended : goal.returns-in-Err-Contended
 returns-in-Err-Contended g c =
-    let before = c.args.registry.now in let number : ℕ = c.args.number in
-    let at = record before.registrar.at { crew = c.keep_board.new.self } in
-    let asked = record before { registrar = record before.registrar { at = at } } in
-    read_none before asked number Contended 14 c.args.buffer.now c.args.len.now (refl, refl) c.in-Err-Contended.ensures.untold
-    (subst (λ (why : NoScrape). AsksAlone (owner_in before) c.keep_board.new.self number (Err why)) c.in-Err-Contended.field-0-is
-    c.in-Err-Contended.ensures.scraped) refl
+    none_read c.args.registry.now c.keep_board.new.self c.args.number Contended _ 14 c.args.buffer.now c.args.len.now
+    c.in-Err-Contended.ensures.untold c.in-Err-Contended.field-0-is c.in-Err-Contended.ensures.scraped refl

@@ -9,7 +9,8 @@ use Rattle.snapshot_scan.specs.Snapshots.{Taken}
 use Rattle.chain_law.proofs.Places.{set_else}
 use Rattle.dirgwako_c.specs.Registries.{recorders_in}
 use Rattle.dirgwako_c.specs.Settling.{OneWorker, seats_on, workers_of}
-use Rattle.dirgwako_c.proofs.Settled.{its, seats_many, set_here, worker_here, worker_below}
+use Rattle.page_crew.proofs.Places.{set_here}
+use Rattle.dirgwako_c.proofs.Settled.{its, seats_many, worker_here, worker_below}
 use Rattle.dirgwako_c.proofs.settling.set_numbers.Goals as goal
 
 pub loop-place-init : goal.loop-place-init

@@ -2,7 +2,8 @@ use Rattle.std.proofs.Common.{rules, arith, refl, inr, List, ℕ, [], ◌∷◌,
 use Rattle.std.specs.Prelude.{IsUtf8}
 use Rattle.std.proofs.lemmas.List.{map-append}
 use Rattle.dirgwako.specs.Texts.{text_at, texts_of}
-use Rattle.dirgwako_c.proofs.Reading.{more_texts, all_texts, more_good, good_there}
+use Rattle.dirgwako.proofs.Reading.{more_texts, all_texts, more_good}
+use Rattle.dirgwako_c.proofs.Reading.{good_there}
 use Rattle.dirgwako_c.proofs.texts.texts.Goals as goal
 
 pub returns-in_default-text-clause-fault : goal.returns-in_default-text-clause-fault
