@@ -1,4 +1,4 @@
-ghost use Rattle.std.specs.Prelude.{◌≡◌, ◌++◌, length, zip, All};
+ghost use Rattle.std.specs.Prelude.{◌≡◌, ◌++◌, true, length, zip, All};
 ghost use Rattle.std.specs.List.{flat_map};
 ghost use Rattle.metric_names.specs.ByteText.{byte_text};
 ghost use Rattle.metric_names.specs.LabelName.{IsLabelName};
@@ -10,7 +10,8 @@ use crate::sink::Sink;
 use metric_names::{LabelName, LabelValue, escape};
 
 /// Writes a text escaped, in runs of bytes that stand as they are.
-pub(crate) fn put_escaped<S: Sink>(sink: &mut S, bytes: &[u8], quoted: bool)
+#[inline(never)]
+fn put_escaped<S: Sink>(sink: &mut S, bytes: &[u8], quoted: bool)
     ensures { S.took sink.old sink.new (flat_map (byte_text quoted) bytes.now) }
 {
     let mut start = 0;
@@ -24,14 +25,29 @@ pub(crate) fn put_escaped<S: Sink>(sink: &mut S, bytes: &[u8], quoted: bool)
     sink.put(&bytes[start..]);
 }
 
+/// Writes a text escaped; one that is verbatim as it is.
+#[inline(always)]
+pub(crate) fn put_text<S: Sink>(sink: &mut S, text: &str, verbatim: bool, quoted: bool)
+    requires { verbatim ≡ true → flat_map (byte_text quoted) text.now ≡ text.now }
+    ensures { S.took sink.old sink.new (flat_map (byte_text quoted) text.now) }
+{
+    let bytes = text.as_bytes();
+    if verbatim {
+        sink.put(bytes);
+    } else {
+        put_escaped(sink, bytes, quoted);
+    }
+}
+
 /// Writes a label after its brace or its comma.
-fn put_label<S: Sink>(sink: &mut S, before: &str, name: &str, value: &str)
-    ensures { S.took sink.old sink.new (before.now ++ label_text (name.now, value.now)) }
+fn put_label<S: Sink>(sink: &mut S, before: &str, name: &str, value: &LabelValue)
+    ensures text { S.took sink.old sink.new (before.now ++ label_text (name.now, value.now)) }
+    ensures value { IsSpelledValue value.now }
 {
     sink.put(before.as_bytes());
     sink.put(name.as_bytes());
     sink.put(b"=\"");
-    put_escaped(sink, value.as_bytes(), true);
+    put_text(sink, value.as_str(), value.is_verbatim(), true);
     sink.put(b"\"");
 }
 
@@ -50,12 +66,7 @@ pub(crate) fn put_opened<S: Sink>(sink: &mut S, names: &[LabelName], values: &[L
     ensures values { All IsSpelledValue values.now }
 {
     for place in 0..names.len() {
-        put_label(
-            sink,
-            mark(place),
-            names[place].as_str(),
-            values[place].as_str(),
-        );
+        put_label(sink, mark(place), names[place].as_str(), &values[place]);
     }
 }
 

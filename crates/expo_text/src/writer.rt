@@ -11,20 +11,21 @@ ghost use Rattle.expo_text.specs.Shown.{shown_of_child, shown_line, shown_group_
 ghost use Rattle.expo_text.specs.Text.{help_line, kind_text, type_line};
 
 use crate::front::Front;
-use crate::labels::put_escaped;
+use crate::labels::put_text;
 use crate::samples::put_number;
 use crate::scrape::{ChildScrape, FamilyScrape, Scrape};
 use crate::sink::Sink;
 use metric_desc::{Desc, Kind};
+use metric_names::HelpText;
 
 /// Writes the line of a help that is not empty.
-fn put_help_line<S: Sink>(sink: &mut S, name: &str, help: &str)
+fn put_help_line<S: Sink>(sink: &mut S, name: &str, help: &HelpText)
     ensures { S.took sink.old sink.new (codes "# HELP " ++ name.now ++ codes " " ++ flat_map help_byte help.now ++ codes "\n") }
 {
     sink.put(b"# HELP ");
     sink.put(name.as_bytes());
     sink.put(b" ");
-    put_escaped(sink, help.as_bytes(), false);
+    put_text(sink, help.as_str(), help.is_verbatim(), false);
     sink.put(b"\n");
 }
 
@@ -34,8 +35,8 @@ fn put_help<S: Sink>(sink: &mut S, desc: &Desc)
     ensures help { IsHelpText desc.now.help }
     ensures utf8 { IsUtf8 desc.now.help }
 {
-    let help = desc.help().as_str();
-    if !help.is_empty() {
+    let help = desc.help();
+    if !help.as_str().is_empty() {
         put_help_line(sink, desc.name().as_str(), help);
     }
 }

@@ -1,4 +1,4 @@
-ghost use Rattle.std.specs.Prelude.{◌≡◌, [], ◌∷◌, MatchOption};
+ghost use Rattle.std.specs.Prelude.{◌≡◌, [], ◌∷◌, true, MatchOption, flat_map};
 ghost use Rattle.metric_names.specs.ByteText.{byte_text};
 
 /// What stands in the text format for a byte that cannot stand as it is: a backslash or a line feed, and where it is `quoted`, in a
@@ -15,4 +15,16 @@ pub fn escape(byte: u8, quoted: bool) -> Option<&'static [u8]>
         b'"' if quoted => Some(b"\\\""),
         _ => None,
     }
+}
+
+/// Whether a text is written as it is: no byte of it is escaped.
+pub(crate) fn is_verbatim(bytes: &[u8], quoted: bool) -> bool
+    ensures { result ≡ true → flat_map (byte_text quoted) bytes.now ≡ bytes.now }
+{
+    for at in 0..bytes.len() {
+        if escape(bytes[at], quoted).is_some() {
+            return false;
+        }
+    }
+    true
 }

@@ -1,6 +1,7 @@
-ghost use Rattle.std.specs.Prelude.{◌≡◌, [], slice_index, IfOk, IfErr, IsUtf8};
+ghost use Rattle.std.specs.Prelude.{◌≡◌, [], true, slice_index, IfOk, IfErr, IsUtf8};
 ghost use Rattle.metric_names.specs.HelpText.{IsHelpTextFault, is_blank, number_of};
 
+use crate::escaping::is_verbatim;
 use crate::no_memory::NoMemory;
 use std::alloc::Global;
 use std::marker::Model;
@@ -43,18 +44,23 @@ impl HelpTextFault {
 #[derive(Debug, Drop)]
 pub struct HelpText {
     text: String,
+    // whether the text format has it as it is
+    verbatim: bool,
 }
 
 impl Model for HelpText {
     ghost use Rattle.std.specs.Prelude.{ℕ, List};
     ghost use Rattle.std.specs.String.{string_bytes};
+    ghost use Rattle.std.specs.Prelude.{◌≡◌, true};
     ghost use Rattle.metric_names.specs.HelpText.{IsHelpText};
+    ghost use Rattle.metric_names.specs.Escapes.{EscHelp};
 
     ghost Value = { List ℕ };
 
     ghost view = { λ h. string_bytes h.text };
 
-    ghost invariant = { λ h. IsHelpText (string_bytes h.text) };
+    ghost invariant = { λ h. IsHelpText (string_bytes h.text)
+        × (h.verbatim ≡ true → EscHelp (string_bytes h.text) (string_bytes h.text)) };
 }
 
 fn is_blank_at(bytes: &[u8], place: usize) -> bool
@@ -73,6 +79,7 @@ impl HelpText {
     {
         HelpText {
             text: String::new(alloc),
+            verbatim: true,
         }
     }
 
@@ -91,8 +98,9 @@ impl HelpText {
         if is_blank_at(bytes, 0) || is_blank_at(bytes, bytes.len().saturating_sub(1)) {
             return Err(HelpTextFault::EdgeBlank);
         }
+        let verbatim = is_verbatim(bytes, false);
         let text = String::from_str(alloc, text).map_err(|_| HelpTextFault::NoMemory)?;
-        Ok(HelpText { text })
+        Ok(HelpText { text, verbatim })
     }
 
     /// The help as text. In the text format no other help is written as this one is.
@@ -107,6 +115,13 @@ impl HelpText {
         self.text.as_str()
     }
 
+    /// Whether the text format has the help as it is: no byte of it is escaped. What is so and is not told to be so is escaped to itself.
+    pub fn is_verbatim(&self) -> bool
+        ensures { result ≡ true → EscHelp self.now self.now }
+    {
+        self.verbatim
+    }
+
     /// An equal help, in memory of its own.
     ///
     /// Refusal 6 [`NoMemory`], and no other.
@@ -114,6 +129,7 @@ impl HelpText {
         ensures { IfOk result (λ help. help ≡ self.now) }
     {
         let text = self.text.clone()?;
-        Ok(HelpText { text })
+        let verbatim = self.verbatim;
+        Ok(HelpText { text, verbatim })
     }
 }

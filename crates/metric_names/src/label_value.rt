@@ -1,6 +1,7 @@
-ghost use Rattle.std.specs.Prelude.{◌≡◌, IfOk, IfErr, IsUtf8};
+ghost use Rattle.std.specs.Prelude.{◌≡◌, true, IfOk, IfErr, IsUtf8};
 ghost use Rattle.metric_names.specs.LabelValue.{IsLabelValueFault, number_of};
 
+use crate::escaping::is_verbatim;
 use crate::no_memory::NoMemory;
 use std::alloc::Global;
 use std::marker::Model;
@@ -38,18 +39,23 @@ impl LabelValueFault {
 #[derive(Debug, Drop)]
 pub struct LabelValue {
     text: String,
+    // whether the text format has it as it is
+    verbatim: bool,
 }
 
 impl Model for LabelValue {
     ghost use Rattle.std.specs.Prelude.{ℕ, List};
     ghost use Rattle.std.specs.String.{string_bytes};
+    ghost use Rattle.std.specs.Prelude.{◌≡◌, true};
     ghost use Rattle.metric_names.specs.LabelValue.{IsLabelValue};
+    ghost use Rattle.metric_names.specs.Escapes.{EscLabel};
 
     ghost Value = { List ℕ };
 
     ghost view = { λ v. string_bytes v.text };
 
-    ghost invariant = { λ v. IsLabelValue (string_bytes v.text) };
+    ghost invariant = { λ v. IsLabelValue (string_bytes v.text)
+        × (v.verbatim ≡ true → EscLabel (string_bytes v.text) (string_bytes v.text)) };
 }
 
 impl LabelValue {
@@ -67,8 +73,9 @@ impl LabelValue {
         if text.len() > LIMIT {
             return Err(LabelValueFault::TooLong { limit: LIMIT });
         }
+        let verbatim = is_verbatim(text.as_bytes(), true);
         let text = String::from_str(alloc, text).map_err(|_| LabelValueFault::NoMemory)?;
-        Ok(LabelValue { text })
+        Ok(LabelValue { text, verbatim })
     }
 
     /// The value as text.
@@ -81,6 +88,13 @@ impl LabelValue {
         self.text.as_str()
     }
 
+    /// Whether the text format has the value as it is: no byte of it is escaped. What is so and is not told to be so is escaped to itself.
+    pub fn is_verbatim(&self) -> bool
+        ensures { result ≡ true → EscLabel self.now self.now }
+    {
+        self.verbatim
+    }
+
     /// An equal value, in memory of its own.
     ///
     /// Refusal 6 [`NoMemory`], and no other.
@@ -88,6 +102,7 @@ impl LabelValue {
         ensures { IfOk result (λ value. value ≡ self.now) }
     {
         let text = self.text.clone()?;
-        Ok(LabelValue { text })
+        let verbatim = self.verbatim;
+        Ok(LabelValue { text, verbatim })
     }
 }

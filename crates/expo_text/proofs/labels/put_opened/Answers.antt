@@ -18,13 +18,12 @@ loop-place-preserved g c =
     let in_values : place < length values = omega (arith, in_names, c.requires) in
     let name_is = c.index-names-place.is in
     let value_is = c.index-values-place.is in
-    let label = rw (c.mark.ensures, c.as_str.ensures.text, c.as_str-in-loop-place.ensures.text) at c.put_label.ensures in
+    let label = rw (c.mark.ensures, c.as_str.ensures.text) at c.put_label.ensures.text in
     let text = opened-next names values place _ _ in_names c.requires name_is value_is in
-    let took = g.met.S.Sink.chain _ _ _ _ _ before.0 label in
-    let value = c.as_str-in-loop-place.ensures in (
+    let took = g.met.S.Sink.chain _ _ _ _ _ before.0 label in (
       rw text at took,
       All-next IsLabelName names place _ in_names name_is before.1 c.as_str.ensures.grammar,
-      All-next IsSpelledValue values place _ in_values value_is before.2 (record { short = value.grammar; utf8 = value.utf8 }),
+      All-next IsSpelledValue values place _ in_values value_is before.2 c.put_label.ensures.value,
     )
 
 pub returns : goal.returns
