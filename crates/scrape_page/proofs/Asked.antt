@@ -19,7 +19,7 @@ use Rattle.scrape_page.proofs.Valued.{nowhere}
 use Rattle.scrape_page.proofs.Facts.{all_there, part_there}
 
 -- what is somewhere has a property there
-some_weaker : {X : Type 0} (P Q : X → Type 0) → ((x : X) → P x → Q x) → (xs : List X) (i : ℕ) → IsSomeAnd (slice_get xs i) P
+pub some_weaker : {X : Type 0} (P Q : X → Type 0) → ((x : X) → P x → Q x) → (xs : List X) (i : ℕ) → IsSomeAnd (slice_get xs i) P
     → IsSomeAnd (slice_get xs i) Q
 some_weaker P Q weaker [] i some = absurd some
 some_weaker P Q weaker (x ∷ xs) zero some = weaker x some

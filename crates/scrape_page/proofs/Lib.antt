@@ -21,3 +21,4 @@ pub mod Born
 pub mod Parted
 pub mod Further
 pub mod Asked
+pub mod Sought

@@ -9,3 +9,4 @@ pub mod Scraping
 pub mod Unshown
 pub mod Windows
 pub mod Framed
+pub mod Sought

@@ -3,10 +3,10 @@ ghost use Rattle.std.specs.Prelude.{◌≡◌};
 
 use crate::family::PageFamilyId;
 use crate::fault::{PageChildFault, PageFamilyFault};
-use crate::finding::find_child;
+use crate::finding::{Sought, seek_of};
 use crate::naming::first_clash;
 use crate::page::Page;
-use crate::rooms::{first_with_room, roomiest};
+use crate::rooms::roomiest;
 use metric_desc::{Desc, Kind};
 use metric_names::LabelValue;
 use registry_state::{Handle, slots_of};
@@ -14,9 +14,6 @@ use snapshot_scan::Source;
 
 /// The most families of a page (`IsPage`).
 const MAX_FAMILIES: usize = 128;
-
-/// The most children of a family (`IsSpread`).
-const MAX_CHILDREN: usize = 256;
 
 impl<S: Source<N, C, H, G>, const N: usize, const C: usize, const H: usize, const G: usize> Page<
     S,
@@ -30,6 +27,7 @@ impl<S: Source<N, C, H, G>, const N: usize, const C: usize, const H: usize, cons
     ghost use Rattle.scrape_page.specs.Rooms.{IsFullPart};
     ghost use Rattle.scrape_page.specs.Faults.{IsMissing, IsPageFamilyFault, IsPageChildFault};
     ghost use Rattle.scrape_page.specs.Calls.{IsGivenOnPage};
+    ghost use Rattle.scrape_page.specs.Sought.{IsSought};
 
     /// Why [`Page::register`] would refuse this family if there were no memory: 19, 23 or 6. For a caller that needs memory of its own first.
     pub fn family_refusal(&self, desc: &Desc) -> PageFamilyFault
@@ -60,6 +58,22 @@ impl<S: Source<N, C, H, G>, const N: usize, const C: usize, const H: usize, cons
         PageChildFault::NoMemory
     }
 
+    // What there is of the child of these values of the family of this number.
+    pub(crate) fn seek(
+        &self,
+        number: usize,
+        values: &[LabelValue],
+    ) -> Result<Sought, PageChildFault>
+        ensures sought { IfOk result (λ sought. IsSomeAnd (slice_get self.now.families number)
+            (IsSought C H G self.now.boards values.now sought)) }
+        ensures fault { IfErr result (IsPageChildFault C H G self.now number values.now) }
+    {
+        match self.families.get(number) {
+            Some(family) => seek_of(&self.boards, family, values),
+            None => Err(PageChildFault::NoSuchFamily),
+        }
+    }
+
     /// What [`Page::child`] would answer if there were no memory: the handle of the child of these values, if it is there. For a caller that
     /// needs memory of its own first.
     ///
@@ -77,23 +91,10 @@ impl<S: Source<N, C, H, G>, const N: usize, const C: usize, const H: usize, cons
         ensures fault { IfErr result (IsPageChildFault C H G self.now family.number values.now) }
     {
         let number = family.number;
-        let Some(it) = self.families.get(number) else {
-            return Err(PageChildFault::NoSuchFamily);
-        };
-        let (want, got) = (it.desc.labels().len(), values.len());
-        if want != got {
-            return Err(PageChildFault::LabelCount { want, got });
-        }
-        if let Some(handle) = find_child(&self.boards, &it.parts, values) {
-            return Ok(handle);
-        }
-        if it.children >= MAX_CHILDREN {
-            return Err(PageChildFault::TooManyChildren);
-        }
-        let kind = it.desc.kind();
-        match first_with_room(&self.boards, &it.parts, kind) {
-            Some(_place) => Err(PageChildFault::NoMemory),
-            None => Err(self.further_refusal(number, kind, values)),
+        match self.seek(number, values)? {
+            Sought::There(handle) => Ok(handle),
+            Sought::Room(_part) => Err(PageChildFault::NoMemory),
+            Sought::Full(kind) => Err(self.further_refusal(number, kind, values)),
         }
     }
 }

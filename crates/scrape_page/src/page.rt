@@ -4,10 +4,10 @@ ghost use Rattle.std.specs.Prelude.{◌≡◌};
 use crate::boards::{home_of_group, is_fresh};
 use crate::family::{PageFamily, PageFamilyId};
 use crate::fault::{BoardFault, PageChildFault, PageFamilyFault};
-use crate::finding::find_child;
+use crate::finding::Sought;
 use crate::naming::{first_clash, number_named, place_of_name};
 use crate::registering::push_registered;
-use crate::rooms::{first_with_room, roomiest};
+use crate::rooms::roomiest;
 use metric_desc::{Desc, Kind};
 use metric_names::{LabelValue, NoMemory};
 use registry_state::{Handle, RegistryState};
@@ -76,9 +76,6 @@ const MAX_BOARDS: usize = 96;
 
 /// The most families of a page (`IsPage`).
 const MAX_FAMILIES: usize = 128;
-
-/// The most children of a family (`IsSpread`).
-const MAX_CHILDREN: usize = 256;
 
 impl<S: Source<N, C, H, G>, const N: usize, const C: usize, const H: usize, const G: usize> Page<
     S,
@@ -232,29 +229,13 @@ impl<S: Source<N, C, H, G>, const N: usize, const C: usize, const H: usize, cons
         ensures leaves { IfErr result (LeavesPage C H G self.old self.new family.number) }
     {
         let number = family.number;
-        let Some(it) = self.families.get(number) else {
-            return Err(PageChildFault::NoSuchFamily);
-        };
-        let (want, got) = (it.desc.labels().len(), values.len());
-        if want != got {
-            return Err(PageChildFault::LabelCount { want, got });
-        }
-        if let Some(handle) = find_child(&self.boards, &it.parts, values) {
-            return Ok(handle);
-        }
-        if it.children >= MAX_CHILDREN {
-            return Err(PageChildFault::TooManyChildren);
-        }
-        let kind = it.desc.kind();
-        match first_with_room(&self.boards, &it.parts, kind) {
-            Some(place) => {
-                let part = it.parts[place];
-                match self.make_there(number, part, values) {
-                    Ok(handle) => Ok(handle),
-                    Err(NoMemory) => Err(PageChildFault::NoMemory),
-                }
-            }
-            None => self.make_further(number, kind, values),
+        match self.seek(number, values)? {
+            Sought::There(handle) => Ok(handle),
+            Sought::Room(part) => match self.make_there(number, part, values) {
+                Ok(handle) => Ok(handle),
+                Err(NoMemory) => Err(PageChildFault::NoMemory),
+            },
+            Sought::Full(kind) => self.make_further(number, kind, values),
         }
     }
 
