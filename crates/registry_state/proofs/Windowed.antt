@@ -153,3 +153,39 @@ keeps_scrape n c h g recorded gave id window source source' journal journal' fam
       id = refl;
       window = refl;
     }
+
+-- and so of the one that is there
+pub kept_of : {S : Type 0} (n c h g : ℕ) (recorded : S → List Answer) (gave : S → S → Answer → Type 0) (old : RegistryView S)
+    (id window : ℕ) (source source' : S) (journal journal' : List Entry) (families : List Family) (order : List ℕ) (used : Kind → ℕ)
+    (answer : Answer)
+    → ◌≡◌ {A = RegistryView S}
+    (record {
+      id = id;
+      window = window;
+      source = source;
+      journal = journal;
+      state = record { families = families; last = newest (scrapes journal) };
+    }) old
+    → IsHeld n c h g (recorded source) journal window families order used
+    → Records n c h g (recorded source) (recorded source') answer → gave source source' answer
+    → journal' ≡ within window (journal ++ Scraped answer ∷ [])
+    → KeepsScrape n c h g recorded gave old
+    (record {
+      id = id;
+      window = window;
+      source = source';
+      journal = journal';
+      state = record { families = families; last = newest (scrapes journal') };
+    })
+kept_of {S} n c h g recorded gave old id window source source' journal journal' families order used answer view is records given same =
+    let held = held_scrape n c h g (recorded source) journal window families order used is (recorded source') journal' answer records same in
+    let now : RegistryView S = record {
+      id = id;
+      window = window;
+      source = source';
+      journal = journal';
+      state = record { families = families; last = newest (scrapes journal') };
+    } in
+    subst (λ (r : RegistryView S). KeepsScrape n c h g recorded gave r now) view
+    (keeps_scrape n c h g recorded gave id window source source' journal journal' families answer is.kept.room.0 records given same
+    held.kept.moments)

@@ -10,6 +10,7 @@ ghost use Rattle.registry_state.specs.Held.{IsChildBefore, IsPlaceOfValues};
 ghost use Rattle.registry_state.specs.Faults.{IsFirstClash, IsRegisterFault};
 
 use crate::fault::RegisterFault;
+use crate::handle::Handle;
 use metric_desc::{Desc, clashes};
 use metric_names::{LabelValue, NoMemory};
 use std::cmp::Ordering;
@@ -137,6 +138,25 @@ pub(crate) fn place_of(children: &[Child], values: &[LabelValue]) -> Result<usiz
     ensures new { OnErr result (All (λ child. child.values ≢ values.now) children.now) }
 {
     children.binary_search_by(|child| child.stands(values))
+}
+
+impl Family {
+    ghost use Rattle.std.specs.Prelude.{ℕ, Contains};
+    ghost use Rattle.registry_state.specs.Calls.{IsHandle};
+
+    /// The handle, in the registry of this id, of the child of these values, or else the place at which the child would stand.
+    pub(crate) fn handle_of(&self, registry: u64, values: &[LabelValue]) -> Result<Handle, usize>
+        requires { AllPairs IsChildBefore self.now.children }
+        ensures found { IfOk result (λ handle. (slot : ℕ)
+            × Contains self.now.children (record { values = values.now; slot = slot }) × IsHandle registry self.now.desc slot handle) }
+        ensures place { IfErr result (IsPlaceOfValues self.now.children values.now) }
+        ensures new { OnErr result (All (λ child. child.values ≢ values.now) self.now.children) }
+    {
+        match place_of(&self.children, values) {
+            Ok(place) => Ok(Handle::of(registry, &self.desc, self.children[place].slot)),
+            Err(place) => Err(place),
+        }
+    }
 }
 
 /// Puts a child at the place that was found for its values.

@@ -3,7 +3,7 @@ ghost use Rattle.std.specs.Prelude.{◌≡◌, ◌<◌, ◌↔◌, IsTrue};
 ghost use Rattle.registry_state.specs.Replay.{slots};
 ghost use Rattle.registry_state.specs.Faults.{IsWindow};
 
-use crate::family::{Family, may_register, number_named, place_of};
+use crate::family::{Family, may_register, number_named};
 use crate::fault::{BadWindow, ChildFault, NewFault, RegisterFault, ScrapeFault};
 use crate::handle::{FamilyId, Handle};
 use crate::journal::Journal;
@@ -216,8 +216,8 @@ impl<
         if want != got {
             return Err(ChildFault::LabelCount { want, got });
         }
-        match place_of(&it.children, values) {
-            Ok(place) => Ok(Handle::of(self.id, &it.desc, it.children[place].slot)),
+        match it.handle_of(self.id, values) {
+            Ok(handle) => Ok(handle),
             Err(place) => self.make(number, place, values),
         }
     }
@@ -287,11 +287,9 @@ impl<
             (IsFound self.now.id self.now.state.families family.number values.now) }
         ensures inside { IfSome result (IsInside C H G) }
     {
-        let Some(it) = self.families.get(family.number) else {
-            return None;
-        };
-        match place_of(&it.children, values) {
-            Ok(place) => Some(Handle::of(self.id, &it.desc, it.children[place].slot)),
+        let it = self.families.get(family.number)?;
+        match it.handle_of(self.id, values) {
+            Ok(handle) => Some(handle),
             Err(_) => None,
         }
     }

@@ -1,8 +1,8 @@
-use Rattle.std.proofs.Common.{◌≡◌, ◌+◌, ◌-◌, ◌<◌, ◌≤◌, List, ℕ, ap, subst, arith}
+use Rattle.std.proofs.Common.{◌≡◌, ◌-◌, List, ℕ, ap, subst, arith}
 use Rattle.metric_desc.specs.declared.kind.Kind.{Kind}
 use Rattle.registry_state.specs.Replay.{Family, slots}
 use Rattle.registry_state.specs.Faults.{AreFree}
-use Rattle.registry_state.specs.Held.{AreHeld, used_of}
+use Rattle.registry_state.specs.Held.{used_of}
 use Rattle.registry_state.specs.Kept.{RegistryView}
 use Rattle.registry_state.proofs.Holding.{are_free}
 use Rattle.registry_state.proofs.registry.RegistryState.free_slots.Goals as goal

@@ -1,17 +1,14 @@
 use Rattle.std.proofs.Common.{◌≡◌, ℕ, List, ap, sym, subst, ◌∙◌, arith}
 use Rattle.snapshot_scan.specs.Snapshots.{as_answer}
 use Rattle.snapshot_scan.specs.Sources.{IsWhole}
-use Rattle.register_rule.specs.Members.{newest}
-use Rattle.registry_state.specs.Journal.{scrapes}
 use Rattle.register_rule.specs.declared.view.Answer.{Answer}
 use Rattle.registry_state.specs.Replay.{Family}
 use Rattle.registry_state.specs.Kept.{RegistryView}
 use Rattle.registry_state.specs.Held.{AreShowable, IsOrder}
 use Rattle.registry_state.specs.Filled.{blanks}
-use Rattle.registry_state.specs.Calls.{KeepsScrape}
 use Rattle.registry_state.specs.Shown.{IsShown}
 use Rattle.registry_state.proofs.Making.{some_is}
-use Rattle.registry_state.proofs.Windowed.{is_newest, is_some, held_scrape, held_left, recorded_left, keeps_scrape}
+use Rattle.registry_state.proofs.Windowed.{is_newest, is_some, held_scrape, held_left, recorded_left, kept_of}
 use Rattle.registry_state.proofs.Showing.{showable}
 use Rattle.registry_state.proofs.registry.RegistryState.scrape.Goals as goal
 
@@ -57,22 +54,9 @@ invariant_of-self-2 g c =
 pub returns-clause-scraped : goal.returns-clause-scraped
 returns-clause-scraped g c =
     let scraped = c.in_ok-note_scrape.ensures.scraped in
-    let held = held_scrape _ _ _ _ _ _ _ _ _ _ c.self.invariant (g.S.Source.recorded c.note_scrape.new.source)
-    c.note_scrape.new.self scraped.0 scraped.1 scraped.3 in
-    let now : RegistryView g.row.S.Denot = record {
-      id = c.self.inside.id;
-      window = c.self.inside.window;
-      source = c.note_scrape.new.source;
-      journal = c.note_scrape.new.self;
-      state = record { families = c.self.inside.families.items; last = newest (scrapes c.note_scrape.new.self) };
-    } in
-    subst (λ (old : RegistryView g.row.S.Denot). KeepsScrape g.row.N g.row.C g.row.H g.row.G g.S.Source.recorded
-    g.S.Source.gave old
-    now) c.self.view_is
-    (keeps_scrape g.row.N g.row.C g.row.H g.row.G g.S.Source.recorded g.S.Source.gave c.self.inside.id c.self.inside.window
-    c.self.inside.source c.note_scrape.new.source c.self.inside.journal
-    c.note_scrape.new.self c.self.inside.families.items scraped.0 c.self.invariant.kept.room.0 scraped.1 scraped.2 scraped.3
-    held.kept.moments)
+    kept_of g.row.N g.row.C g.row.H g.row.G g.S.Source.recorded g.S.Source.gave _ c.self.inside.id c.self.inside.window
+    c.self.inside.source c.note_scrape.new.source c.self.inside.journal c.note_scrape.new.self c.self.inside.families.items _ _
+    scraped.0 c.self.view_is c.self.invariant scraped.1 scraped.2 scraped.3
 
 pub new-requires : goal.new-requires
 new-requires g c =
