@@ -6,8 +6,8 @@ use Rattle.registry_state.specs.Replay.{Family, IsNew}
 use Rattle.registry_state.specs.Kept.{RegistryView}
 use Rattle.registry_state.proofs.Making.{some_at}
 use Rattle.scrape_page.specs.declared.family.Part.{Part}
-use Rattle.scrape_page.specs.declared.finding.Sought.{Sought}
-use Rattle.scrape_page.specs.declared.finding.Sought.TheVariants.{Room}
+use Rattle.scrape_page.specs.declared.seeking.Sought.{Sought}
+use Rattle.scrape_page.specs.declared.seeking.Sought.TheVariants.{Room}
 use Rattle.scrape_page.specs.declared.fault.PageChildFault.{PageChildFault}
 use Rattle.scrape_page.specs.declared.fault.PageChildFault.TheVariants.{NoSuchFamily, LabelCount, TooManyChildren, Full, NoMemory}
 use Rattle.scrape_page.specs.Families.{PageFamily, PageView}

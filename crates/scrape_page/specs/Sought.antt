@@ -4,8 +4,8 @@ use Rattle.std.specs.List.{Any}
 use Rattle.registry_state.specs.Calls.{IsInside}
 use Rattle.registry_state.specs.Replay.{Family, IsNew}
 use Rattle.registry_state.specs.Kept.{RegistryView}
-use Rattle.scrape_page.specs.declared.finding.Sought.{Sought}
-use Rattle.scrape_page.specs.declared.finding.Sought.TheVariants.{There, Room, Full}
+use Rattle.scrape_page.specs.declared.seeking.Sought.{Sought}
+use Rattle.scrape_page.specs.declared.seeking.Sought.TheVariants.{There, Room, Full}
 use Rattle.scrape_page.specs.declared.fault.PageChildFault.{PageChildFault}
 use Rattle.scrape_page.specs.declared.fault.PageChildFault.TheVariants.{LabelCount, TooManyChildren}
 use Rattle.scrape_page.specs.Families.{PageFamily}

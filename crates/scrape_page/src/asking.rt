@@ -3,13 +3,12 @@ ghost use Rattle.std.specs.Prelude.{◌≡◌};
 
 use crate::family::PageFamilyId;
 use crate::fault::{PageChildFault, PageFamilyFault};
-use crate::finding::{Sought, seek_of};
 use crate::naming::first_clash;
 use crate::page::Page;
-use crate::rooms::roomiest;
-use metric_desc::{Desc, Kind};
+use crate::seeking::{Sought, seek_of};
+use metric_desc::Desc;
 use metric_names::LabelValue;
-use registry_state::{Handle, slots_of};
+use registry_state::Handle;
 use snapshot_scan::Source;
 
 /// The most families of a page (`IsPage`).
@@ -24,7 +23,6 @@ impl<S: Source<N, C, H, G>, const N: usize, const C: usize, const H: usize, cons
 > {
     ghost use Rattle.std.specs.Prelude.{◌≡◌, ◌<◌, slice_get, All, IfErr, IfOk, IsSomeAnd};
     ghost use Rattle.registry_state.specs.Calls.{IsInside};
-    ghost use Rattle.scrape_page.specs.Rooms.{IsFullPart};
     ghost use Rattle.scrape_page.specs.Faults.{IsMissing, IsPageFamilyFault, IsPageChildFault};
     ghost use Rattle.scrape_page.specs.Calls.{IsGivenOnPage};
     ghost use Rattle.scrape_page.specs.Sought.{IsSought};
@@ -40,22 +38,6 @@ impl<S: Source<N, C, H, G>, const N: usize, const C: usize, const H: usize, cons
             return PageFamilyFault::TooManyFamilies;
         }
         PageFamilyFault::NoMemory
-    }
-
-    // Why there is no further child of a family of this kind whose parts are on full boards.
-    fn further_refusal(&self, number: usize, kind: Kind, values: &[LabelValue]) -> PageChildFault
-        requires { IsSomeAnd (slice_get self.now.families number) (λ it. IsMissing self.now.boards it values.now
-            × (it.children < 256) × (kind ≡ it.desc.kind) × All (IsFullPart C H G it.desc.kind self.now.boards) it.parts) }
-        ensures { IsPageChildFault C H G self.now number values.now result }
-    {
-        let room = roomiest(&self.boards, kind);
-        if room.free == 0 {
-            return PageChildFault::Full {
-                kind,
-                slots: slots_of::<C, H, G>(kind),
-            };
-        }
-        PageChildFault::NoMemory
     }
 
     // What there is of the child of these values of the family of this number.
@@ -94,7 +76,10 @@ impl<S: Source<N, C, H, G>, const N: usize, const C: usize, const H: usize, cons
         match self.seek(number, values)? {
             Sought::There(handle) => Ok(handle),
             Sought::Room(_part) => Err(PageChildFault::NoMemory),
-            Sought::Full(kind) => Err(self.further_refusal(number, kind, values)),
+            Sought::Full(kind) => {
+                let _place = self.further(number, kind, values)?;
+                Err(PageChildFault::NoMemory)
+            }
         }
     }
 }

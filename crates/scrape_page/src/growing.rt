@@ -18,9 +18,9 @@ impl<S: Source<N, C, H, G>, const N: usize, const C: usize, const H: usize, cons
     H,
     G,
 > {
-    ghost use Rattle.std.specs.Prelude.{◌≡◌, ◌<◌, slice_get, All, Contains, IfErr, IfOk, IsSomeAnd, OnErr};
+    ghost use Rattle.std.specs.Prelude.{◌≡◌, ℕ, ◌<◌, slice_get, All, Contains, IfErr, IfOk, IsSomeAnd, OnErr};
     ghost use Rattle.registry_state.specs.Calls.{IsInside};
-    ghost use Rattle.scrape_page.specs.Rooms.{HasRoom, IsFullPart};
+    ghost use Rattle.scrape_page.specs.Rooms.{HasRoom, IsFullPart, IsRoomiest};
     ghost use Rattle.scrape_page.specs.Faults.{IsMissing, IsPageChildFault};
     ghost use Rattle.scrape_page.specs.Calls.{AddsPart, AddsChild, WasMadeFurther, LeavesPage};
 
@@ -59,6 +59,28 @@ impl<S: Source<N, C, H, G>, const N: usize, const C: usize, const H: usize, cons
         take_part(&mut self.boards, &mut self.families, number, place)
     }
 
+    // The board on which a family of this kind, whose parts are on full boards, would take a further part. It has a free slot.
+    pub(crate) fn further(
+        &self,
+        number: usize,
+        kind: Kind,
+        values: &[LabelValue],
+    ) -> Result<usize, PageChildFault>
+        requires { IsSomeAnd (slice_get self.now.families number) (λ it. IsMissing self.now.boards it values.now
+            × (it.children < 256) × (kind ≡ it.desc.kind) × All (IsFullPart C H G it.desc.kind self.now.boards) it.parts) }
+        ensures place { IfOk result (λ place. (room : ℕ) × IsRoomiest C H G kind self.now.boards place room × (0 < room)) }
+        ensures fault { IfErr result (IsPageChildFault C H G self.now number values.now) }
+    {
+        let room = roomiest(&self.boards, kind);
+        if room.free == 0 {
+            return Err(PageChildFault::Full {
+                kind,
+                slots: slots_of::<C, H, G>(kind),
+            });
+        }
+        Ok(room.board)
+    }
+
     // Makes a child of a family of this kind whose parts are on full boards.
     pub(crate) fn make_further(
         &mut self,
@@ -73,14 +95,8 @@ impl<S: Source<N, C, H, G>, const N: usize, const C: usize, const H: usize, cons
         ensures fault { IfErr result (IsPageChildFault C H G self.old number values.now) }
         ensures leaves { IfErr result (LeavesPage C H G self.old self.new number) }
     {
-        let room = roomiest(&self.boards, kind);
-        if room.free == 0 {
-            return Err(PageChildFault::Full {
-                kind,
-                slots: slots_of::<C, H, G>(kind),
-            });
-        }
-        let Ok(part) = self.add_part(number, room.board) else {
+        let place = self.further(number, kind, values)?;
+        let Ok(part) = self.add_part(number, place) else {
             return Err(PageChildFault::NoMemory);
         };
         match self.make_there(number, part, values) {

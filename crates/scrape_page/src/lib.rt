@@ -19,6 +19,7 @@ mod page;
 mod registering;
 mod rooms;
 mod scraping;
+mod seeking;
 mod windows;
 
 pub use family::{PageFamily, PageFamilyId, Part};

@@ -4,7 +4,7 @@ use Rattle.std.proofs.lemmas.Option.{slice_get_read}
 use Rattle.std.proofs.lemmas.Result.{IfOk-weaker, IfErr-weaker}
 use Rattle.registry_state.specs.Kept.{RegistryView}
 use Rattle.registry_state.proofs.Making.{some_at}
-use Rattle.scrape_page.specs.declared.finding.Sought.{Sought}
+use Rattle.scrape_page.specs.declared.seeking.Sought.{Sought}
 use Rattle.scrape_page.specs.Families.{PageFamily, PageView}
 use Rattle.scrape_page.specs.Faults.{IsPageChildFault}
 use Rattle.scrape_page.specs.Sought.{IsWhole, IsSought, IsRefused}

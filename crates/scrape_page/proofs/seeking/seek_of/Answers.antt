@@ -5,7 +5,7 @@ use Rattle.scrape_page.specs.Families.{PageFamily}
 use Rattle.scrape_page.specs.Rooms.{IsFirstWithRoom, IsFullPart}
 use Rattle.scrape_page.proofs.Asked.{first_at}
 use Rattle.scrape_page.proofs.Sought.{unfound}
-use Rattle.scrape_page.proofs.finding.seek_of.Goals as goal
+use Rattle.scrape_page.proofs.seeking.seek_of.Goals as goal
 
 pub returns-in-Some-first_with_room-clause-sought : goal.returns-in-Some-first_with_room-clause-sought
 returns-in-Some-first_with_room-clause-sought g c =
