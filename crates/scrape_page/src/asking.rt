@@ -3,16 +3,13 @@ ghost use Rattle.std.specs.Prelude.{◌≡◌};
 
 use crate::family::PageFamilyId;
 use crate::fault::{PageChildFault, PageFamilyFault};
-use crate::naming::first_clash;
+use crate::naming::may_register;
 use crate::page::Page;
 use crate::seeking::{Sought, seek_of};
 use metric_desc::Desc;
 use metric_names::LabelValue;
 use registry_state::Handle;
 use snapshot_scan::Source;
-
-/// The most families of a page (`IsPage`).
-const MAX_FAMILIES: usize = 128;
 
 impl<S: Source<N, C, H, G>, const N: usize, const C: usize, const H: usize, const G: usize> Page<
     S,
@@ -31,13 +28,10 @@ impl<S: Source<N, C, H, G>, const N: usize, const C: usize, const H: usize, cons
     pub fn family_refusal(&self, desc: &Desc) -> PageFamilyFault
         ensures { IsPageFamilyFault self.now.families desc.now result }
     {
-        if let Some(with) = first_clash(&self.families, desc) {
-            return PageFamilyFault::Clash { with };
+        match may_register(&self.families, desc) {
+            Ok(()) => PageFamilyFault::NoMemory,
+            Err(fault) => fault,
         }
-        if self.families.len() >= MAX_FAMILIES {
-            return PageFamilyFault::TooManyFamilies;
-        }
-        PageFamilyFault::NoMemory
     }
 
     // What there is of the child of these values of the family of this number.

@@ -1,16 +1,20 @@
 //! Names of the families of a page.
-ghost use Rattle.std.specs.Prelude.{◌≡◌, ◌≢◌, ◌↔◌, ◌<◌, length, map, slice_get, All, IsSomeAnd, IsTrue, MatchOption};
+ghost use Rattle.std.specs.Prelude.{◌≡◌, ◌≢◌, ◌↔◌, ◌<◌, length, map, slice_get, All, IfErr, IsSomeAnd, IsTrue, MatchOption, OnOk};
 ghost use Rattle.std.specs.Ordering.{nat_cmp, is_lt};
 ghost use Rattle.std.specs.Cmp.Lexicographic.{slice_cmp};
 ghost use Rattle.registry_state.specs.Held.{family_at, IsOrder, IsPlaceOfName};
 ghost use Rattle.scrape_page.specs.Families.{as_family};
-ghost use Rattle.scrape_page.specs.Faults.{AreApart, IsFirstClash};
+ghost use Rattle.scrape_page.specs.Faults.{AreApart, IsFirstClash, IsPageFamilyFault};
 
 use crate::family::PageFamily;
+use crate::fault::PageFamilyFault;
 use metric_desc::{Desc, clashes};
 
+/// The most families of a page (`IsPage`).
+const MAX_FAMILIES: usize = 128;
+
 /// The least number of a family that clashes with a descriptor.
-pub(crate) fn first_clash(families: &[PageFamily], desc: &Desc) -> Option<usize>
+fn first_clash(families: &[PageFamily], desc: &Desc) -> Option<usize>
     ensures { MatchOption result (AreApart families.now desc.now) (IsFirstClash families.now desc.now) }
 {
     for (number, family) in families.iter().enumerate() {
@@ -19,6 +23,22 @@ pub(crate) fn first_clash(families: &[PageFamily], desc: &Desc) -> Option<usize>
         }
     }
     None
+}
+
+/// Whether a family of this descriptor may be registered.
+///
+/// Refusals, in the order in which they are tried: 19 `Clash`, 23 `TooManyFamilies`.
+pub(crate) fn may_register(families: &[PageFamily], desc: &Desc) -> Result<(), PageFamilyFault>
+    ensures ok { OnOk result (AreApart families.now desc.now × (length families.now < 128)) }
+    ensures fault { IfErr result (IsPageFamilyFault families.now desc.now) }
+{
+    if let Some(with) = first_clash(families, desc) {
+        return Err(PageFamilyFault::Clash { with });
+    }
+    if families.len() >= MAX_FAMILIES {
+        return Err(PageFamilyFault::TooManyFamilies);
+    }
+    Ok(())
 }
 
 /// Whether a family has this name.

@@ -4,7 +4,7 @@ ghost use Rattle.std.specs.Prelude.{◌≡◌};
 use crate::boards::{home_of_group, is_fresh};
 use crate::family::{PageFamily, PageFamilyId};
 use crate::fault::{BoardFault, PageChildFault, PageFamilyFault};
-use crate::naming::{first_clash, number_named, place_of_name};
+use crate::naming::{may_register, number_named, place_of_name};
 use crate::registering::push_registered;
 use crate::rooms::roomiest;
 use crate::seeking::Sought;
@@ -73,9 +73,6 @@ pub struct NotTaken<X> {
 
 /// The most boards of a page (`IsPage`).
 const MAX_BOARDS: usize = 96;
-
-/// The most families of a page (`IsPage`).
-const MAX_FAMILIES: usize = 128;
 
 impl<S: Source<N, C, H, G>, const N: usize, const C: usize, const H: usize, const G: usize> Page<
     S,
@@ -183,12 +180,7 @@ impl<S: Source<N, C, H, G>, const N: usize, const C: usize, const H: usize, cons
         ensures fault { IfErr result (IsPageFamilyFault self.old.families desc) }
         ensures unchanged { OnErr result (self.new ≡ self.old) }
     {
-        if let Some(with) = first_clash(&self.families, &desc) {
-            return Err(PageFamilyFault::Clash { with });
-        }
-        if self.families.len() >= MAX_FAMILIES {
-            return Err(PageFamilyFault::TooManyFamilies);
-        }
+        may_register(&self.families, &desc)?;
         let home = self.home_of(desc.kind(), group);
         let number = self.families.len();
         match self.add_family(desc, group, home) {
