@@ -5,8 +5,7 @@ use Rattle.metric_desc.specs.Desc.{Descriptor}
 use Rattle.metric_desc.specs.declared.kind.Kind.{Kind}
 use Rattle.register_rule.specs.declared.view.Answer.{Answer}
 use Rattle.segment_layout.specs.Layout.{IsGeometry}
-use Rattle.register_rule.specs.Members.{newest}
-use Rattle.registry_state.specs.Journal.{RegistryChange, Registered, Entry, Changed, scrapes}
+use Rattle.registry_state.specs.Journal.{RegistryChange, Registered, Entry, Changed}
 use Rattle.registry_state.specs.Replay.{Family, IsAcceptedChange, after, nothing}
 use Rattle.registry_state.specs.Faults.{IsWindow}
 use Rattle.registry_state.specs.Held.{IsPlaceOfName, used_of}
@@ -14,7 +13,7 @@ use Rattle.registry_state.specs.Kept.{RegistryView}
 use Rattle.registry_state.specs.Calls.{changed}
 use Rattle.registry_state.specs.Held.{IsHeld}
 use Rattle.registry_state.proofs.Entries.{newest_change}
-use Rattle.registry_state.proofs.Keeping.{keeps_at_change, kept_new}
+use Rattle.registry_state.proofs.Keeping.{view_of, keeps_at_change, kept_new}
 use Rattle.registry_state.proofs.Holding.{held_registered, held_none}
 use Rattle.registry_state.proofs.Ordered.{order_more, order_none}
 
@@ -38,22 +37,10 @@ held_new n c h g recorded window journal families order geometry room none no_fa
 pub seen_new : {S : Type 0} (id window : ℕ) (source : S) (journal : List Entry) (families : List Family)
     → journal ≡ [] → families ≡ []
     → ◌≡◌ {A = RegistryView S}
-    (record {
-      id = id;
-      window = window;
-      source = source;
-      journal = journal;
-      state = record { families = families; last = newest (scrapes journal) };
-    })
+    (view_of id window source journal families)
     (record { id = id; window = window; source = source; journal = []; state = nothing })
 seen_new {S} id window source journal families none no_families =
-    let now : (j : List Entry) (f : List Family) → RegistryView S = λ j f. record {
-      id = id;
-      window = window;
-      source = source;
-      journal = j;
-      state = record { families = f; last = newest (scrapes j) };
-    } in
+    let now : (j : List Entry) (f : List Family) → RegistryView S = view_of id window source in
     ap (λ j. now j families) none ∙ ap (now []) no_families
 
 module _ (n c h g : ℕ) (recorded : List Answer) (journal : List Entry) (window : ℕ) (families : List Family) (order : List ℕ)
@@ -99,28 +86,10 @@ module _ (n c h g : ℕ) (recorded : List Answer) (journal : List Entry) (window
 pub seen_changed : {S : Type 0} (id window : ℕ) (source : S) (journal journal' : List Entry) (families families' : List Family)
     (change : RegistryChange)
     → journal' ≡ journal ++ Changed change ∷ [] → families' ≡ after families change
-    → record {
-      id = id;
-      window = window;
-      source = source;
-      journal = journal';
-      state = record { families = families'; last = newest (scrapes journal') };
-    }
-    ≡ changed change (record {
-      id = id;
-      window = window;
-      source = source;
-      journal = journal;
-      state = record { families = families; last = newest (scrapes journal) };
-    })
+    → view_of id window source journal' families'
+    ≡ changed change (view_of id window source journal families)
 seen_changed {S} id window source journal journal' families families' change one two =
-    let now : (j : List Entry) (f : List Family) → RegistryView S = λ j f. record {
-      id = id;
-      window = window;
-      source = source;
-      journal = j;
-      state = record { families = f; last = newest (scrapes j) };
-    } in
+    let now : (j : List Entry) (f : List Family) → RegistryView S = view_of id window source in
     ap (λ j. now j families') one
     ∙ ap (now (journal ++ Changed change ∷ [])) two
     ∙ ap (λ last. record {

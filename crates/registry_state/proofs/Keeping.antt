@@ -9,11 +9,21 @@ use Rattle.register_rule.specs.Members.{newest}
 use Rattle.snapshot_scan.proofs.Publishing.{no_moments, moments_later}
 use Rattle.registry_state.specs.Journal.{RegistryChange, Entry, Changed, Scraped, scrapes, within}
 use Rattle.registry_state.specs.Replay.{Family, State, nothing, IsAcceptedChange, IsNext, after, Replays}
-use Rattle.registry_state.specs.Kept.{AreLast, IsKept}
+use Rattle.registry_state.specs.Kept.{AreLast, IsKept, RegistryView}
 use Rattle.registry_state.specs.Faults.{IsWindow}
 use Rattle.registry_state.proofs.Entries.{scrapes_change, scrapes_scrape, scrapes_within, few_within, newest_behind}
 use Rattle.registry_state.proofs.Entries.{newest_change, newest_within}
 use Rattle.registry_state.proofs.Replayed.{parts_of_replay, replays_change, replays_scrape, replays_within}
+
+-- what contracts see of a registry
+abbrev pub view_of : {S : Type 0} (id window : ℕ) → S → (journal : List Entry) → List Family → RegistryView S
+view_of id window source journal families = record {
+  id = id;
+  window = window;
+  source = source;
+  journal = journal;
+  state = record { families = families; last = newest (scrapes journal) };
+}
 
 -- no answers are the last of any
 pub last_none : (recorded : List Answer) → AreLast [] recorded

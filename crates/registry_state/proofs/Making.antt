@@ -6,8 +6,7 @@ use Rattle.std.proofs.lemmas.List.{get_or_default}
 use Rattle.metric_desc.specs.Desc.{Descriptor}
 use Rattle.metric_desc.specs.declared.kind.Kind.{Kind}
 use Rattle.register_rule.specs.declared.view.Answer.{Answer}
-use Rattle.register_rule.specs.Members.{newest}
-use Rattle.registry_state.specs.Journal.{ChildMade, Entry, Changed, scrapes}
+use Rattle.registry_state.specs.Journal.{ChildMade, Entry, Changed}
 use Rattle.registry_state.specs.Replay.{Child, Family, MayMake, put, with_child, slots}
 use Rattle.registry_state.specs.Kept.{RegistryView}
 use Rattle.registry_state.specs.Held.{AreHeld, IsOneMore}
@@ -18,7 +17,7 @@ use Rattle.registry_state.specs.declared.handle.Handle.{Handle}
 use Rattle.registry_state.specs.declared.fault.ChildFault.{ChildFault}
 use Rattle.registry_state.specs.declared.fault.ChildFault.TheVariants.{NoMemory}
 use Rattle.registry_state.proofs.Entries.{newest_change}
-use Rattle.registry_state.proofs.Keeping.{keeps_at_change}
+use Rattle.registry_state.proofs.Keeping.{view_of, keeps_at_change}
 use Rattle.registry_state.proofs.Ordered.{order_made}
 use Rattle.registry_state.proofs.Holding.{grown, held_made, least_free, none_free}
 
@@ -109,28 +108,10 @@ on_err_both r P Q one two = on_err r (P × Q) (one, two)
 pub seen_still : {S : Type 0} (id window : ℕ) (source : S) (journal journal' : List Entry) (families families' : List Family)
     → journal' ≡ journal → families' ≡ families
     → ◌≡◌ {A = RegistryView S}
-    (record {
-      id = id;
-      window = window;
-      source = source;
-      journal = journal';
-      state = record { families = families'; last = newest (scrapes journal') };
-    })
-    (record {
-      id = id;
-      window = window;
-      source = source;
-      journal = journal;
-      state = record { families = families; last = newest (scrapes journal) };
-    })
+    (view_of id window source journal' families')
+    (view_of id window source journal families)
 seen_still {S} id window source journal journal' families families' one two =
-    let now : (j : List Entry) (f : List Family) → RegistryView S = λ j f. record {
-      id = id;
-      window = window;
-      source = source;
-      journal = j;
-      state = record { families = f; last = newest (scrapes j) };
-    } in
+    let now : (j : List Entry) (f : List Family) → RegistryView S = view_of id window source in
     ap (λ j. now j families') one ∙ ap (now journal) two
 
 -- a family of which a child is wanted, and the slot that would count for it
@@ -174,30 +155,12 @@ module _ (c h g : ℕ) (families : List Family) (used : Kind → ℕ) (held : Ar
       → journal' ≡ journal ++ Changed (ChildMade number values slot) ∷ []
       → families' ≡ with_child families number (record { values = values; slot = slot })
       → WasMade c h g
-      (record {
-        id = id;
-        window = window;
-        source = source;
-        journal = journal;
-        state = record { families = families; last = newest (scrapes journal) };
-      })
-      (record {
-        id = id;
-        window = window;
-        source = source;
-        journal = journal';
-        state = record { families = families'; last = newest (scrapes journal') };
-      })
+      (view_of id window source journal families)
+      (view_of id window source journal' families')
       number values handle
   was_made {S} id window source journal journal' families' slot handle room at is noted new =
       let used_at : used it.desc.kind ≡ slot = ap used (sym same) ∙ sym at in
-      let now : (j : List Entry) (f : List Family) → RegistryView S = λ j f. record {
-        id = id;
-        window = window;
-        source = source;
-        journal = j;
-        state = record { families = f; last = newest (scrapes j) };
-      } in
+      let now : (j : List Entry) (f : List Family) → RegistryView S = view_of id window source in
       record {
         slot = slot;
         made = some_at (λ (family : Family). MayMake c h g families values slot family

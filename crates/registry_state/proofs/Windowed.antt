@@ -16,7 +16,7 @@ use Rattle.registry_state.specs.Kept.{RegistryView, IsKept}
 use Rattle.registry_state.specs.Calls.{KeepsScrape}
 use Rattle.registry_state.specs.Held.{IsHeld}
 use Rattle.registry_state.proofs.Entries.{newest_within, newest_scrape}
-use Rattle.registry_state.proofs.Keeping.{keeps_at_window, kept_scrape}
+use Rattle.registry_state.proofs.Keeping.{view_of, keeps_at_window, kept_scrape}
 
 -- the newest scrape that is kept after a scrape
 pub newest_after : (window : ℕ) (journal journal' : List Entry) (answer : Answer) → 1 ≤ window
@@ -90,13 +90,7 @@ recorded_left n recorded quit gave_up old new (Scrape.Contended fault) left = le
 pub seen_window : {S : Type 0} (id window' : ℕ) (source : S) (journal journal' : List Entry) (families : List Family)
     → 1 ≤ window' → journal' ≡ within window' journal
     → ◌≡◌ {A = RegistryView S}
-    (record {
-      id = id;
-      window = window';
-      source = source;
-      journal = journal';
-      state = record { families = families; last = newest (scrapes journal') };
-    })
+    (view_of id window' source journal' families)
     (record {
       id = id;
       window = window';
@@ -105,13 +99,7 @@ pub seen_window : {S : Type 0} (id window' : ℕ) (source : S) (journal journal'
       state = record { families = families; last = newest (scrapes journal) };
     })
 seen_window {S} id window' source journal journal' families some same =
-    let with_journal : List Entry → RegistryView S = λ j. record {
-      id = id;
-      window = window';
-      source = source;
-      journal = j;
-      state = record { families = families; last = newest (scrapes j) };
-    } in
+    let with_journal : List Entry → RegistryView S = λ j. view_of id window' source j families in
     let with_last : Option Answer → RegistryView S = λ last. record {
       id = id;
       window = window';
@@ -127,20 +115,8 @@ pub keeps_scrape : {S : Type 0} (n c h g : ℕ) (recorded : S → List Answer) (
     (answer : Answer) → 1 ≤ window → Records n c h g (recorded source) (recorded source') answer → gave source source' answer
     → journal' ≡ within window (journal ++ Scraped answer ∷ []) → AreMoments n c h g (scrapes journal')
     → KeepsScrape n c h g recorded gave
-    (record {
-      id = id;
-      window = window;
-      source = source;
-      journal = journal;
-      state = record { families = families; last = newest (scrapes journal) };
-    })
-    (record {
-      id = id;
-      window = window;
-      source = source';
-      journal = journal';
-      state = record { families = families; last = newest (scrapes journal') };
-    })
+    (view_of id window source journal families)
+    (view_of id window source' journal' families)
 keeps_scrape n c h g recorded gave id window source source' journal journal' families answer some records given same moments =
     record {
       answer = answer;
@@ -159,33 +135,15 @@ pub kept_of : {S : Type 0} (n c h g : ℕ) (recorded : S → List Answer) (gave 
     (id window : ℕ) (source source' : S) (journal journal' : List Entry) (families : List Family) (order : List ℕ) (used : Kind → ℕ)
     (answer : Answer)
     → ◌≡◌ {A = RegistryView S}
-    (record {
-      id = id;
-      window = window;
-      source = source;
-      journal = journal;
-      state = record { families = families; last = newest (scrapes journal) };
-    }) old
+    (view_of id window source journal families) old
     → IsHeld n c h g (recorded source) journal window families order used
     → Records n c h g (recorded source) (recorded source') answer → gave source source' answer
     → journal' ≡ within window (journal ++ Scraped answer ∷ [])
     → KeepsScrape n c h g recorded gave old
-    (record {
-      id = id;
-      window = window;
-      source = source';
-      journal = journal';
-      state = record { families = families; last = newest (scrapes journal') };
-    })
+    (view_of id window source' journal' families)
 kept_of {S} n c h g recorded gave old id window source source' journal journal' families order used answer view is records given same =
     let held = held_scrape n c h g (recorded source) journal window families order used is (recorded source') journal' answer records same in
-    let now : RegistryView S = record {
-      id = id;
-      window = window;
-      source = source';
-      journal = journal';
-      state = record { families = families; last = newest (scrapes journal') };
-    } in
+    let now : RegistryView S = view_of id window source' journal' families in
     subst (λ (r : RegistryView S). KeepsScrape n c h g recorded gave r now) view
     (keeps_scrape n c h g recorded gave id window source source' journal journal' families answer is.kept.room.0 records given same
     held.kept.moments)
