@@ -1,4 +1,4 @@
-use Rattle.std.proofs.Common.{◌≡◌, ◌∙◌, ◌+◌, ◌-◌, ◌++◌, ◌∷◌, [], ap, sym, subst, arith, length}
+use Rattle.std.proofs.Common.{◌≡◌, ◌∙◌, ◌+◌, ◌-◌, ◌++◌, ◌∷◌, [], ap, ap₂, sym, subst, arith, length}
 use Rattle.std.specs.Prelude.{Some}
 use Rattle.std.specs.VecDeque.{deque_len, deque_capacity}
 use Rattle.snapshot_scan.specs.Snapshots.{Taken}
@@ -28,12 +28,8 @@ invariant_of-self g c =
           w.push_back_reserved.new.self.items w.note_increases.new.increases.items) (sym c.copy_from-2.ensures)
           (history_more _ _ _ _ _ _ _ _ _ c.self.invariant c.args.scrape.now w.note_increases.new.increases.items
           w.push_back_reserved.new.self.items c.args.before _ w.note_increases.ensures
-          (let a = w.len.ensures in let b = w.len-start.ensures in
-          let e : deque_len c.self.inside.increases ≡ length c.self.inside.increases.items = c.self.inside.increases.ok.0 in
-          let f : deque_len w.note_increases.new.increases ≡ length w.note_increases.new.increases.items =
-          w.note_increases.new.increases.ok.0 in
-          let n : w.len.result - w.len-start.result ≡ length w.note_increases.new.increases.items - length
-          c.self.inside.increases.items = omega (arith, a, b, e, f) in n)
+          (ap₂ (λ m n. m - n) (w.len.ensures ∙ w.note_increases.new.increases.ok.0)
+          (w.len-start.ensures ∙ c.self.inside.increases.ok.0))
           w.push_back_reserved.ensures.items _ w.in-Some.is))
       | in-None w ↦
           subst P (sym w.self-inside-is)
@@ -55,12 +51,8 @@ returns g c =
           subst Q (sym w.self-inside-is)
           (held_more _ _ _ _ _ _ _ _ _ c.self.invariant c.args.scrape.now w.note_increases.new.increases.items
           w.push_back_reserved.new.self.items c.args.before _ w.note_increases.ensures
-          (let a = w.len.ensures in let b = w.len-start.ensures in
-          let e : deque_len c.self.inside.increases ≡ length c.self.inside.increases.items = c.self.inside.increases.ok.0 in
-          let f : deque_len w.note_increases.new.increases ≡ length w.note_increases.new.increases.items =
-          w.note_increases.new.increases.ok.0 in
-          let n : w.len.result - w.len-start.result ≡ length w.note_increases.new.increases.items - length
-          c.self.inside.increases.items = omega (arith, a, b, e, f) in n)
+          (ap₂ (λ m n. m - n) (w.len.ensures ∙ w.note_increases.new.increases.ok.0)
+          (w.len-start.ensures ∙ c.self.inside.increases.ok.0))
           w.push_back_reserved.ensures.items _ w.in-Some.is)
       | in-None w ↦
           subst Q (sym w.self-inside-is)
