@@ -115,7 +115,7 @@ impl HelpText {
         self.text.as_str()
     }
 
-    /// Whether the text format has the help as it is: no byte of it is escaped. What is so and is not told to be so is escaped to itself.
+    /// Whether the text format has the help as it is, since no byte of it is escaped.
     pub fn is_verbatim(&self) -> bool
         ensures { result ≡ true → EscHelp self.now self.now }
     {

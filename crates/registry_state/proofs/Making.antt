@@ -1,8 +1,9 @@
 -- What a registry keeps, where a child is made, and what contracts see of it.
 use Rattle.std.proofs.Common.{◌≡◌, ℕ, zero, suc, ◌<◌, ◌≤◌, List, [], ◌∷◌, ◌++◌, Some, length, get_or, set, Contains, ap, sym}
-use Rattle.std.proofs.Common.{subst, ◌∙◌, arith}
+use Rattle.std.proofs.Common.{refl, subst, ◌∙◌, arith}
 use Rattle.std.specs.Prelude.{slice_get, IsSomeAnd, Option, Result, Ok, Err, IfErr, OnErr, IsErrAnd}
 use Rattle.std.proofs.lemmas.List.{get_or_default}
+use Rattle.std.proofs.lemmas.Option.{slice_get_read}
 use Rattle.metric_desc.specs.Desc.{Descriptor}
 use Rattle.metric_desc.specs.declared.kind.Kind.{Kind}
 use Rattle.register_rule.specs.declared.view.Answer.{Answer}
@@ -77,6 +78,12 @@ still_at families number it desc children there same still =
     ap (λ d. set families number (record { desc = d; children = children })) same
     ∙ ap (λ cs. set families number (record { desc = it.desc; children = cs })) still
     ∙ set_same families number it there
+
+-- what was read of a list at a place is there, in the same list
+pub read_at : {X : Type 0} (read xs : List X) (i : ℕ) (x : X) → read ≡ xs → i < length read → x ≡ get_or read i x
+    → slice_get xs i ≡ Some x
+read_at {X} read xs i x same lt is =
+    subst (λ (l : List X). slice_get l i ≡ Some x) same (slice_get_read read (length read) i x refl lt is)
 
 -- a child of these values that was found at this place
 pub found_child : (children : List Child) (place : ℕ) (child : Child) (values : List (List ℕ)) (slot : ℕ)

@@ -132,18 +132,18 @@ keeps_scrape n c h g recorded gave id window source source' journal journal' fam
 
 -- and so of the one that is there
 pub kept_of : {S : Type 0} (n c h g : ℕ) (recorded : S → List Answer) (gave : S → S → Answer → Type 0) (old : RegistryView S)
-    (id window : ℕ) (source source' : S) (journal journal' : List Entry) (families : List Family) (order : List ℕ) (used : Kind → ℕ)
-    (answer : Answer)
-    → ◌≡◌ {A = RegistryView S}
-    (view_of id window source journal families) old
+    (id window : ℕ) (source source' : S) (journal journal' : List Entry) (families : List Family) (order : List ℕ)
+    (used : Kind → ℕ) (answer : Answer)
+    → view_of id window source journal families ≡ old
     → IsHeld n c h g (recorded source) journal window families order used
     → Records n c h g (recorded source) (recorded source') answer → gave source source' answer
     → journal' ≡ within window (journal ++ Scraped answer ∷ [])
     → KeepsScrape n c h g recorded gave old
     (view_of id window source' journal' families)
-kept_of {S} n c h g recorded gave old id window source source' journal journal' families order used answer view is records given same =
-    let held = held_scrape n c h g (recorded source) journal window families order used is (recorded source') journal' answer records same in
+kept_of {S} n c h g recorded gave old id window source source' journal journal' families order used last view is once given same =
+    let held =
+    held_scrape n c h g (recorded source) journal window families order used is (recorded source') journal' last once same in
     let now : RegistryView S = view_of id window source' journal' families in
     subst (λ (r : RegistryView S). KeepsScrape n c h g recorded gave r now) view
-    (keeps_scrape n c h g recorded gave id window source source' journal journal' families answer is.kept.room.0 records given same
+    (keeps_scrape n c h g recorded gave id window source source' journal journal' families last is.kept.room.0 once given same
     held.kept.moments)

@@ -148,7 +148,8 @@ impl Family {
     pub(crate) fn handle_of(&self, registry: u64, values: &[LabelValue]) -> Result<Handle, usize>
         requires { AllPairs IsChildBefore self.now.children }
         ensures found { IfOk result (λ handle. (slot : ℕ)
-            × Contains self.now.children (record { values = values.now; slot = slot }) × IsHandle registry self.now.desc slot handle) }
+            × Contains self.now.children (record { values = values.now; slot = slot })
+            × IsHandle registry self.now.desc slot handle) }
         ensures place { IfErr result (IsPlaceOfValues self.now.children values.now) }
         ensures new { OnErr result (All (λ child. child.values ≢ values.now) self.now.children) }
     {
