@@ -30,8 +30,8 @@ module _ {S : Type 0} where
   }
 
   -- values that none of these parts of a family has, which are all of them, are missing
-  pub unfound : (boards : List (RegistryView S)) (it : PageFamily) (values : List (List ℕ)) (parts : List Part) → IsWhole boards it
-      → parts ≡ it.parts → length values ≡ length it.desc.labels
+  pub unfound : (boards : List (RegistryView S)) (it : PageFamily) (values : List (List ℕ)) (parts : List Part)
+      → IsWhole boards it → parts ≡ it.parts → length values ≡ length it.desc.labels
       → All (λ part. HasPart boards part (λ _ (family : Family). IsNew family values)) parts → IsMissing boards it values
   unfound boards it values parts whole is fit new =
       whole.missing values fit (subst (All (λ part. HasPart boards part (λ _ (family : Family). IsNew family values))) is new)
@@ -55,7 +55,8 @@ module _ {S : Type 0} where
 
   module _ (c h g : ℕ) (page : PageView S) (number : ℕ) (values : List (List ℕ)) where
     module _ (part : Part) (sought : IsSoughtOnPage c h g page number values (Room part)) where
-      abbrev the : (it : PageFamily) × (slice_get page.families number ≡ Some it) × IsSought c h g page.boards values (Room part) it
+      abbrev the : (it : PageFamily) × (slice_get page.families number ≡ Some it)
+          × IsSought c h g page.boards values (Room part) it
       the = some_there (IsSought c h g page.boards values (Room part)) (slice_get page.families number) sought
 
       -- there is room, and no memory

@@ -20,7 +20,8 @@ module _ {S : Type 0} where
     pub some : 0 < length boards
     pub parts : All (λ part. HasPart boards part (λ _ _. ⊤)) family.parts
     pub missing : (values : List (List ℕ)) → length values ≡ length family.desc.labels
-        → All (λ part. HasPart boards part (λ _ (of_board : Family). IsNew of_board values)) family.parts → IsMissing boards family values
+        → All (λ part. HasPart boards part (λ _ (of_board : Family). IsNew of_board values)) family.parts
+        → IsMissing boards family values
 
   -- what there is of the child of these values of a family, which may have one more where there is none
   abbrev pub IsSought : (c h g : ℕ) → List (RegistryView S) → (values : List (List ℕ)) → Sought → PageFamily → Type 0

@@ -25,7 +25,9 @@ pub(crate) enum Sought {
     Full(Kind),
 }
 
-/// What there is of the child of these values of a family. Refused are too many or too few values, and one more child than a family has.
+/// What there is of the child of these values of a family.
+///
+/// Refusals, in the order in which they are tried: 21 `LabelCount`; of a child that is not there 46 `TooManyChildren`.
 pub(crate) fn seek_of<
     S: Source<N, C, H, G>,
     const N: usize,

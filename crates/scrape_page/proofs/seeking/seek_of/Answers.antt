@@ -15,7 +15,8 @@ returns-in-Some-first_with_room-clause-sought g c =
     let view = c.family.view_is in
     let parts : c.deref-2.result.now ≡ it.parts = c.deref-2.ensures.value ∙ ap (λ (f : PageFamily). f.parts) view in
     let read : c.deref-4.result.now ≡ it.parts = c.deref-4.ensures.value ∙ ap (λ (f : PageFamily). f.parts) view in
-    let labels = c.labels.ensures.labels ∙ ap (λ (d : Descriptor). d.labels) (c.deref.ensures ∙ ap (λ (f : PageFamily). f.desc) view) in
+    let desc : c.deref.result.now ≡ it.desc = c.deref.ensures ∙ ap (λ (f : PageFamily). f.desc) view in
+    let labels = c.labels.ensures.labels ∙ ap (λ (d : Descriptor). d.labels) desc in
     let fit = sym c.if-want-got.false ∙ ap (λ (l : List (List ℕ)). length l) labels in
     let kind = c.kind-kind.ensures ∙ ap (λ (d : Descriptor). d.kind) (c.deref-3.ensures ∙ ap (λ (f : PageFamily). f.desc) view) in
     let children : c.family.inside.children ≡ it.children = ap (λ (f : PageFamily). f.children) view in
@@ -40,8 +41,10 @@ returns-in-None-clause-sought g c =
     subst (All (IsFullPart g.row.C g.row.H g.row.G c.kind-kind.result boards))
     (c.deref-4.ensures.value ∙ ap (λ (f : PageFamily). f.parts) c.family.view_is) c.in-None.ensures in
     let desc : c.deref.result.now ≡ it.desc = c.deref.ensures ∙ ap (λ (f : PageFamily). f.desc) c.family.view_is in
-    let kind = c.kind-kind.ensures ∙ ap (λ (d : Descriptor). d.kind) (c.deref-3.ensures ∙ ap (λ (f : PageFamily). f.desc) c.family.view_is) in
-    let fit = sym c.if-want-got.false ∙ ap (λ (l : List (List ℕ)). length l) (c.labels.ensures.labels ∙ ap (λ (d : Descriptor). d.labels) desc) in
+    let kind = c.kind-kind.ensures ∙ ap (λ (d : Descriptor). d.kind) (c.deref-3.ensures ∙ ap (λ (f : PageFamily). f.desc)
+    c.family.view_is) in
+    let labels = c.labels.ensures.labels ∙ ap (λ (d : Descriptor). d.labels) desc in
+    let fit = sym c.if-want-got.false ∙ ap (λ (l : List (List ℕ)). length l) labels in
     let children : c.family.inside.children ≡ it.children = ap (λ (f : PageFamily). f.children) c.family.view_is in
     let under = c.if-family-ge-MAX_CHILDREN.false in (
       unfound boards it c.args.values.now _ c.requires parts fit c.in_default.ensures.found,

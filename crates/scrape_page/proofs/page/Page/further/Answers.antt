@@ -27,7 +27,8 @@ returns-clause-place g c =
     let boards : c.deref.result.now ≡ c.args.self.now.boards =
     c.deref.ensures.value ∙ ap (λ (p : PageView g.row.S.Denot). p.boards) c.self.view_is in (
       c.roomiest-room.result.free,
-      subst (λ (l : List (RegistryView g.row.S.Denot)). IsRoomiest g.row.C g.row.H g.row.G c.args.kind l c.roomiest-room.result.board
+      subst (λ (l : List (RegistryView g.row.S.Denot)). IsRoomiest g.row.C g.row.H g.row.G c.args.kind l
+          c.roomiest-room.result.board
           c.roomiest-room.result.free) boards c.roomiest-room.ensures.roomiest,
       omega arith,
     )

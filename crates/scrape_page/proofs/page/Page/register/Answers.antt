@@ -36,5 +36,6 @@ returns-in-Err-clause-fault g c =
 pub returns-in_err-may_register-clause-fault : goal.returns-in_err-may_register-clause-fault
 returns-in_err-may_register-clause-fault g c =
     let is = subst (λ (l : List PageFamily). IsPageFamilyFault l c.args.desc c.in_err-may_register.field-0.0)
-    (c.deref.ensures.value ∙ ap (λ (p : PageView g.row.S.Denot). p.families) c.self.view_is) c.in_err-may_register.ensures.fault in
+    (c.deref.ensures.value ∙ ap (λ (p : PageView g.row.S.Denot). p.families) c.self.view_is) c.in_err-may_register.ensures.fault
+    in
     search (rules, is)
