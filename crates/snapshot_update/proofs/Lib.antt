@@ -1,6 +1,7 @@
 pub mod Touching
 pub mod Filling
 pub mod Giving
+pub mod Planning
 pub mod VersionWords
 pub mod Fitting
 pub mod Following

@@ -1,6 +1,7 @@
 pub mod BufferImages
 pub mod Noting
 pub mod Known
+pub mod Plans
 pub mod Fit
 pub mod Conditions
 pub mod Updated

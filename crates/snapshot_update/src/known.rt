@@ -7,43 +7,58 @@ ghost use Rattle.snapshot_scan.specs.ScanMemories.{changed_totals_in};
 ghost use Rattle.snapshot_scan.specs.declared.scan_end.ScanEnd.TheVariants as ScanEnd;
 ghost use Rattle.snapshot_update.specs.Fit.{AreInside};
 ghost use Rattle.snapshot_update.specs.Known.{IsStill, ListsChangedTotals, IsFollowed};
+ghost use Rattle.snapshot_update.specs.Plans.{is_known, is_same, is_repeat, with_late};
 
+use crate::buffer_images::BufferImages;
 use crate::listing::{note_each, note_range};
+use crate::plan::Plan;
 use register_rule::WorkSeat;
 use segment_layout::{Item, item_at};
 use snapshot_scan::{ChangedItems, ScanEnd, ScanMemory};
 
-/// Whether the version that an update publishes is known to differ from what the shown buffer holds at no items but the late
-/// and the touched ones. Where it is, what the scan found anew is listed as late, too. The second answer says that it was seen at once that
-/// this is nothing, the scan being quiet. `row_known` says that the row that was remembered of the worker's own segment is known to be its row.
+/// What is known of the version that an update publishes, once its scan has `ended`. Where that is known to differ from what the
+/// shown buffer holds at no items but the late and the touched ones, what the scan found anew is listed as late, too. `again` says
+/// that the touched words are those of the update before.
 #[inline(always)]
 pub(crate) fn know_next<const N: usize, const C: usize, const H: usize, const G: usize>(
     seat: &WorkSeat,
     memory: &ScanMemory<N, C, H, G>,
-    late: &mut ChangedItems,
-    touched: &ChangedItems,
-    row_known: bool,
+    images: &mut BufferImages,
     ended: ScanEnd,
-) -> (bool, bool)
+    again: bool,
+) -> Plan
     requires geometry { IsGeometry N C H G }
     requires inside { index_of seat.now < N }
     requires words { AreInside (width C H G) (changed_totals_in memory.now) }
-    ensures touched { result.0 ≡ true → touched.now.all ≡ false }
-    ensures known { result.0 ≡ true → IsStill ended row_known late.old late.new
-        ⊎ IsFollowed N C H G (index_of seat.now) (length (worker_of seat.now).work.made) memory.now ended late.old late.new }
-    ensures unknown { result.0 ≡ false → late.new ≡ late.old }
-    ensures still { result.1 ≡ true → (result.0 ≡ true) × (late.new ≡ late.old) }
-    ensures sees { ended ≡ ScanEnd.Direct true → touched.now.all ≡ false → row_known ≡ true → result.1 ≡ true }
+    ensures others { images.new ≡ with_late images.new.late images.old }
+    ensures touched { is_known result ≡ true → images.old.touched.all ≡ false }
+    ensures known { is_known result ≡ true → IsStill ended images.old.row_known images.old.late images.new.late
+        ⊎ IsFollowed N C H G (index_of seat.now) (length (worker_of seat.now).work.made) memory.now ended images.old.late
+        images.new.late }
+    ensures unknown { is_known result ≡ false → images.new.late ≡ images.old.late }
+    ensures same { is_same result ≡ true → (again ≡ true) × (images.new.late ≡ images.old.late) }
+    ensures repeats { is_same result ≡ true → is_repeat result ≡ images.old.joined }
+    ensures sees { ended ≡ ScanEnd.Direct true → images.old.touched.all ≡ false → images.old.row_known ≡ true
+        → (is_known result ≡ true) × (is_same result ≡ again) × (images.new.late ≡ images.old.late) }
 {
-    let still = ended.is_quiet() & !touched.is_all() & row_known;
-    if still {
-        return (true, true);
+    if ended.is_quiet() & !images.touched.is_all() & images.row_known {
+        return if again & images.joined {
+            Plan::Repeats
+        } else if again {
+            Plan::Same
+        } else {
+            Plan::Known
+        };
     }
-    (follow(seat, memory, late, touched, ended), false)
+    if follow(seat, memory, &mut images.late, &images.touched, ended) {
+        Plan::Known
+    } else {
+        Plan::Whole
+    }
 }
 
-/// Where that is not known at once: whether the scan ended direct, with the number of its own worker, and all touched words are listed.
-/// What the scan found anew is listed as late then, and the row that it remembers under that number is the worker's row.
+/// Where that is not seen at once, the scan being quiet: whether it ended direct, with the number of its own worker, and all touched
+/// words are listed. What the scan found anew is listed as late then, and the row that it remembers under that number is the worker's row.
 #[inline(never)]
 fn follow<const N: usize, const C: usize, const H: usize, const G: usize>(
     seat: &WorkSeat,

@@ -1,8 +1,10 @@
 //! Updates: how a worker makes its hidden buffer the next version of its segment, and what it knows of both its buffers.
 //!
-//! [`Crew`] is a board with its workers and readers. A [`Worker`] counts: `apply` and its like go to `update` (`update.rt`), which rests
-//! where a scan asks for it (`Board::rest_if_hushed`), scans (`scan_for_update`), lists what changed (`touch`, `know_next`), fills the
-//! hidden buffer (`fill_version`, `fill_next`, and `fills.rt`), publishes it, and remembers what it published (`turn`, `learn`).
+//! [`Crew`] is a board with its workers and readers. A [`Worker`] counts: `apply` and its like go to `update` (`update.rt`), whose steps
+//! are, in this order: the row takes the operations (`Row::try_apply`), and the words that they touch are listed (`touch`); it rests
+//! where a scan asks for it (`Board::rest_if_hushed`), and scans (`scan_for_update`); what it knows then is its `Plan` (`know_next`), by
+//! which it fills the hidden buffer (`fill_version`, `fill_next`, and `fills.rt`); it publishes that (`Board::publish`), and remembers
+//! what it published (`turn`, `learn`).
 //!
 //! A worker knows the words of both its buffers, so it stores only those that change, and it compares only the items
 //! that may have changed: the head of `update.rt` has a table of the lists that tell which.
@@ -17,6 +19,7 @@ mod known;
 mod listing;
 mod next_fill;
 mod next_version;
+mod plan;
 mod run;
 mod scanning;
 mod touched;

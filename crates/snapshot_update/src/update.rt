@@ -10,18 +10,23 @@
 //! | `touched` | the list of operations changed a word of the row | `touch` |
 //! | `changed_totals` of the scan's memory | a total may differ from before the scan | `ScanMemory::scan` |
 //!
-//! So the next version differs from the shown buffer at most at the late and at the touched items (`know_next` says whether that is
-//! known), and from the hidden one at the recent ones besides. What an update knows beside the lists:
+//! So where it is known that they tell, the next version differs from the shown buffer at most at the late and at the touched items,
+//! and from the hidden one at the recent ones besides. Whether it is known, `know_next` tells by the end of the scan and by these:
 //!
 //! | flag | it says that | who sets it |
 //! |---|---|---|
 //! | `row_known` of the images | the row that is remembered of the worker's own segment is its row | `update`; `Worker::scan` clears it |
-//! | `joined` of the images | just the late and the touched items are recent | `fill_version` and `turn`; `Worker::scan` clears it |
+//! | `joined` of the images | just the late and the touched items are recent | `fill_version`, `turn`; `Worker::scan` clears it |
 //! | `again` | the touched words are those of the update before | `touch` |
-//! | `known` | the late and the touched items are all at which the next version differs from the shown buffer | `know_next` |
-//! | `still` | so, and nothing more is late than was | `know_next` |
-//! | `same` | `again` and `still`: neither `touched` nor `late` has changed | `update` |
-//! | `repeats` | `same` and `joined`: the update repeats the one before it, and nothing has to be listed anew | `update` |
+//!
+//! Its answer is the `Plan`, by which the steps behind it go:
+//!
+//! | plan | where | what the update does |
+//! |---|---|---|
+//! | `Repeats` | it is `Same`, and `joined` | stores its number, the touched words and their totals (`fill_again`); lists nothing |
+//! | `Same` | it is `Known`, the scan was quiet, and `again` | as `Known`, and then `joined` may be noted |
+//! | `Known` | the scan ended direct with the worker's own number | compares the items of three lists (`fill_known`) |
+//! | `Whole` | else | compares the whole buffer (`fill_all`) |
 ghost use Rattle.std.specs.Prelude.{◌≡◌, ℕ, ◌+◌, ◌<◌, true, false, cond, length, slice_index, slice_set, Contains, OnOk, OnErr};
 ghost use Rattle.std.specs.Prelude.{IfErr};
 ghost use Rattle.ledger_core.specs.Ops.{width, sum_ops};
@@ -38,6 +43,7 @@ ghost use Rattle.snapshot_scan.specs.ScanMemories.{rows_of, totals_in, answer_of
 ghost use Rattle.snapshot_update.specs.BufferImages.{DifferAt, version_words};
 ghost use Rattle.snapshot_update.specs.Fit.{AreInside, IsNoneOf, AreLate, AreJoined, IsFit};
 ghost use Rattle.snapshot_update.specs.Conditions.{MayMakeVersion, MayLearn, HasFilled};
+ghost use Rattle.snapshot_update.specs.Plans.{is_known, is_same, is_repeat};
 ghost use Rattle.snapshot_update.specs.Updated.{IsUpdated};
 
 use crate::buffer_images::BufferImages;
@@ -46,6 +52,7 @@ use crate::known::know_next;
 use crate::listing::list_late;
 use crate::next_fill::fill_next;
 use crate::next_version::NextVersion;
+use crate::plan::Plan;
 use crate::scanning::scan_for_update;
 use crate::touched::touch;
 use ledger_core::{Op, OpFault, Row};
@@ -54,17 +61,9 @@ use segment_layout::{Item, item_at};
 use snapshot_scan::{ScanEnd, ScanMemory};
 use std::mem::swap;
 
-// The flag of a version that lends a view, or does not.
-#[inline]
-fn flag_word(lends: bool) -> u64
-    ensures { result ≡ cond lends 1 0 }
-{
-    if lends { 1 } else { 0 }
-}
-
 /// Fills the hidden buffer with the version of this row, with the answer of the scan that ended so, and says whether it lends
-/// that. `known` is what `know_next` answered. Whether just the late and the touched items are recent then is noted in the images; where the
-/// update `repeats` the one before it, they were so before, and just the worker's number and the totals of the touched words are late.
+/// that. Whether just the late and the touched items are recent then is noted in the images. Where the update repeats the one
+/// before it, they were so before, and just the worker's number and the totals of the touched words are late.
 #[inline(always)]
 fn fill_version<const N: usize, const C: usize, const H: usize, const G: usize>(
     board: &Board<N, C, H, G>,
@@ -73,11 +72,10 @@ fn fill_version<const N: usize, const C: usize, const H: usize, const G: usize>(
     memory: &ScanMemory<N, C, H, G>,
     images: &mut BufferImages,
     ended: ScanEnd,
-    known: bool,
-    repeats: bool,
+    plan: Plan,
 ) -> bool
-    requires may { MayMakeVersion board.now seat.old row.now memory.now images.old ended known }
-    requires repeats { repeats ≡ true → (known ≡ true) × AreJoined images.old.recent images.old.late images.old.touched
+    requires may { MayMakeVersion board.now seat.old row.now memory.now images.old ended (is_known plan) }
+    requires repeats { is_repeat plan ≡ true → AreJoined images.old.recent images.old.late images.old.touched
         × AreLate N (width C H G) (index_of seat.old) images.old.touched images.old.late }
     ensures fills { HasFilled board.now images.new.hidden.items seat.old seat.new }
     ensures hidden { images.new.hidden.items ≡ version_words row.now (cond result 1 0) (answer_of memory.now ended).vector
@@ -91,14 +89,16 @@ fn fill_version<const N: usize, const C: usize, const H: usize, const G: usize>(
     ensures none { result ≡ false → ended ≡ ScanEnd.GaveUp }
 {
     let (vector, totals) = memory.answer(ended);
-    let lends = ended.has_view();
-    let version = NextVersion::new(row, flag_word(lends), vector, totals);
-    if repeats {
+    if plan.is_repeat() {
+        // Its scan ended direct, and so it lends.
+        let version = NextVersion::new(row, 1, vector, totals);
         let hidden = images.hidden.as_mut_slice();
         fill_again(board, seat, hidden, &images.touched, &version);
-        return lends;
+        return true;
     }
-    let listed = known & !images.recent.is_all() & !images.late.is_all();
+    let lends = ended.has_view();
+    let version = NextVersion::new(row, u64::from(lends), vector, totals);
+    let listed = plan.is_known() & !images.recent.is_all() & !images.late.is_all();
     fill_next(
         board,
         seat,
@@ -114,46 +114,50 @@ fn fill_version<const N: usize, const C: usize, const H: usize, const G: usize>(
     lends
 }
 
-/// After the publish the buffers have changed their roles: exchanges their images, and lists anew where the shown one differs from what
-/// an update of nothing would publish now (`late`): anywhere, where it is not `known`, as `know_next` answered. Where the two differ from
-/// each other (`recent`) stays as it is. `same` says that the touched words are those of the update before, and that its scan made nothing more
-/// late; where the update `repeats` that one in all, what is late is listed already.
+/// After the publish the buffers have changed their roles: exchanges their images, and lists anew where the shown one differs from
+/// what an update of nothing would publish now (`late`): anywhere, where that is not known. Where the two differ from each other
+/// (`recent`) stays as it is. Where the update repeats the one before it, what is late is listed already.
 #[inline(always)]
 fn turn<const N: usize, const C: usize, const H: usize, const G: usize>(
     images: &mut BufferImages,
     index: usize,
-    known: bool,
-    same: bool,
-    repeats: bool,
+    plan: Plan,
 )
     requires geometry { IsGeometry N C H G }
     requires inside { index < N }
     requires touched { AreInside (width C H G) images.old.touched }
-    requires repeats { repeats ≡ true → (known ≡ true) × (same ≡ true) × (images.old.late.all ≡ false)
+    requires repeats { is_repeat plan ≡ true → (images.old.late.all ≡ false)
         × AreInside (depth N (width C H G)) images.old.late × AreLate N (width C H G) index images.old.touched images.old.late }
     ensures buffers { (images.new.hidden.items ≡ images.old.shown.items) × (images.new.shown.items ≡ images.old.hidden.items) }
     ensures others { (images.new.recent ≡ images.old.recent) × (images.new.touched ≡ images.old.touched) }
-    ensures unknown { known ≡ false → images.new.late.all ≡ true }
+    ensures unknown { is_known plan ≡ false → images.new.late.all ≡ true }
     ensures number { images.new.late.all ≡ false → Contains images.new.late.items (width C H G + 1 + index) }
     ensures totals { images.new.late.all ≡ false → (k : ℕ) → Contains images.old.touched.items k
         → Contains images.new.late.items (width C H G + 1 + N + k) }
     ensures only { images.new.late.all ≡ false → (j : ℕ) → IsNoneOf N (width C H G) index images.old.touched j
         → ¬ (Contains images.new.late.items j) }
     ensures inside { AreInside (depth N (width C H G)) images.new.late }
-    ensures joined { images.new.joined ≡ true → (images.old.joined ≡ true) × (same ≡ true) × (images.new.late.all ≡ false) }
+    ensures joined { images.new.joined ≡ true → (images.old.joined ≡ true) × (is_same plan ≡ true) × (images.new.late.all ≡ false) }
 {
     swap(&mut images.hidden, &mut images.shown);
-    if repeats {
+    if plan.is_repeat() {
         return;
     }
     let number = item_at(N, C, H, G, Item::Vector { worker: index });
     let totals_at = item_at(N, C, H, G, Item::Flag) + 1 + N;
-    list_late(&mut images.late, &images.touched, number, totals_at, known);
-    // Where `late` and `touched` were what they are, the same items are late now as before, so that just they and the touched ones are recent.
-    images.joined = images.joined & same & !images.late.is_all();
+    list_late(
+        &mut images.late,
+        &images.touched,
+        number,
+        totals_at,
+        plan.is_known(),
+    );
+    // Where `late` and `touched` were what they are, the same items are late now as before, so that just they and the touched ones
+    // are recent.
+    images.joined = images.joined & plan.is_same() & !images.late.is_all();
 }
 
-/// Remembers the worker's own new row. Where `known`, as `know_next` answered, it differs from the remembered one at the touched words alone.
+/// Remembers the worker's own new row. Where the plan is known it differs from the remembered one at the touched words alone.
 #[inline(always)]
 fn learn<const N: usize, const C: usize, const H: usize, const G: usize>(
     memory: &mut ScanMemory<N, C, H, G>,
@@ -161,15 +165,15 @@ fn learn<const N: usize, const C: usize, const H: usize, const G: usize>(
     number: u64,
     row: &Row<C, H, G>,
     images: &BufferImages,
-    known: bool,
+    plan: Plan,
 )
-    requires { MayLearn memory.old index row.now images.now known }
+    requires { MayLearn memory.old index row.now images.now (is_known plan) }
     ensures rows { rows_of memory.new ≡ slice_set (rows_of memory.old) index (record { number = number; row = row.now }) }
     ensures sums { (v : version) → get_elem? (rows_of memory.old) index ≡ some v → (k : ℕ) → k < width C H G
         → slice_index (totals_in memory.new) k + slice_index v.row k ≡ slice_index
         (totals_in memory.old) k + slice_index row.now k }
 {
-    if known {
+    if plan.is_known() {
         memory.remember_at(index, number, row, images.touched.as_slice());
         return;
     }
@@ -210,22 +214,13 @@ pub(crate) fn update<const N: usize, const C: usize, const H: usize, const G: us
     let again = touch::<C, H, G>(ops, &mut images.touched, &mut images.spare);
     board.rest_if_hushed(rested);
     let ended = scan_for_update(board, seat, memory);
-    let (known, still) = know_next(
-        seat,
-        memory,
-        &mut images.late,
-        &images.touched,
-        images.row_known,
-        ended,
-    );
-    let same = again & still;
-    let repeats = images.joined & same;
-    let lends = fill_version(board, seat, row, memory, images, ended, known, repeats);
+    let plan = know_next(seat, memory, images, ended, again);
+    let lends = fill_version(board, seat, row, memory, images, ended, plan);
     board.publish(seat, ops, lends);
     let index = seat.worker();
-    turn::<N, C, H, G>(images, index, known, same, repeats);
+    turn::<N, C, H, G>(images, index, plan);
     let number = seat.number();
-    learn(memory, index, number, row, images, known);
+    learn(memory, index, number, row, images, plan);
     images.row_known = true;
     Ok(())
 }

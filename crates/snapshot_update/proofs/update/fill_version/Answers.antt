@@ -1,5 +1,6 @@
 use Rattle.std.proofs.Common.{◌≡◌, ◌<◌, ℕ, Bool, true, false, cond, List, ◌++◌, length, take, drop, slice_index, sym, refl, ap}
 use Rattle.std.proofs.Common.{◌∙◌, subst, arith, rules}
+use mir.Val.{bool_byte}
 use Rattle.std.proofs.lemmas.Bool.{and_parts, not-true}
 use Rattle.ledger_core.specs.Ops.{width}
 use Rattle.segment_layout.specs.Layout.{depth}
@@ -9,13 +10,20 @@ use Rattle.snapshot_scan.specs.ScanMemories.{answer_of}
 use Rattle.snapshot_update.specs.BufferImages.{DifferAt, version_words}
 use Rattle.snapshot_update.specs.BufferImages.{target_of}
 use Rattle.snapshot_update.specs.Conditions.{HasFilled}
+use Rattle.snapshot_update.specs.Plans.{is_repeat}
 use Rattle.snapshot_scan.proofs.Words.{over}
+use Rattle.snapshot_update.proofs.Planning.{repeat_same, same_known}
 use Rattle.snapshot_update.proofs.update.fill_version.Goals as goal
 
 -- a scan that ended direct has a view
 direct_views : (b : Bool) (e : ScanEnd) (quiet : Bool) → (b ≡ false → e ≡ GaveUp) → e ≡ Direct quiet → b ≡ true
 direct_views true e quiet none direct = refl
 direct_views false e quiet none direct = absurd (let h = sym (none refl) ∙ direct in cc)
+
+-- a truth as a number
+flag_is : (lends : Bool) → bool_byte lends ≡ cond lends 1 0
+flag_is true = refl
+flag_is false = refl
 
 -- what was written over the first words of a buffer, all of them, is what it holds
 written : (new slice items : List ℕ) (n : ℕ) → slice ≡ items → length slice ≡ n → length new ≡ length slice
@@ -29,8 +37,8 @@ fill_next-requires g c =
     let geo = c.requires.may.geometry in let slots = geo.slots in let few = geo.workers.1 in
     let deep : length im.hidden.items ≡ b = t.hidden_deep in
     let hidden = c.as_mut_slice.ensures.value in let shown = c.as_slice.ensures.value in
-    let lens = c.answer.ensures.lengths in let long = c.new-version.ensures.lengths in
-    let v = c.new-version.result in (
+    let lens = c.answer.ensures.lengths in let long = c.new-version-2.ensures.lengths in
+    let v = c.new-version-2.result in (
       search rules,
       (
         search rules,
@@ -48,20 +56,20 @@ fill_next-requires g c =
               few = let c1 = slots.counters in let c2 = slots.histograms in let c3 = slots.gauges in omega (arith, few, c1, c2, c3);
               inside = (t.recent_inside, t.late_inside, λ j has. let lt = c.requires.may.touched j has in omega (arith, lt));
               listed = λ known. let a = and_parts _ _ known in let a' = and_parts _ _ a.0 in
-                  (sym c.is_all.ensures ∙ not-true _ a'.1, sym c.is_all-2.ensures ∙ not-true _ a.1, (q a'.0).0);
+                  (sym c.is_all.ensures ∙ not-true _ a'.1, sym c.is_all-2.ensures ∙ not-true _ a.1, (q (sym c.is_known.ensures ∙ a'.0)).0);
               differ = λ listed j lt not_there. ap (λ (l : List ℕ). slice_index l j) hidden
                   ∙ (t.recent listed j (let e = ap (λ (l : List ℕ). length l) shown in omega (arith, lt, e)) not_there
                   ∙ ap (λ (l : List ℕ). slice_index l j) (sym shown));
               known = λ known j lt not_late not_touched.
-                  let a = and_parts _ _ known in let a' = and_parts _ _ a.0 in let is = q a'.0 in
+                  let a = and_parts _ _ known in let a' = and_parts _ _ a.0 in let is = q (sym c.is_known.ensures ∙ a'.0) in
                   let lends : c.has_view-lends.result ≡ true = direct_views c.has_view-lends.result c.args.ended is.1.0
                   c.has_view-lends.ensures.none is.1.1 in
-                  let flag : c.flag_word.result ≡ 1 = c.flag_word.ensures ∙ ap (λ (x : Bool). cond x 1 0) lends in
+                  let flag : c.from.result ≡ 1 = c.from.ensures ∙ ap bool_byte lends in
                   let next = c.requires.may.images.0 in
                   let same : slice_index im.shown.items j ≡ slice_index next j = t.late (sym c.is_all-2.ensures ∙ not-true _ a.1) j
                   (let e = t.idle_deep in omega (arith, lt, e)) not_late in
                   let words : target_of v ≡ version_words c.args.row.now 1 (answer_of c.args.memory.now c.args.ended).vector
-                  (answer_of c.args.memory.now c.args.ended).totals = c.new-version.ensures.words
+                  (answer_of c.args.memory.now c.args.ended).totals = c.new-version-2.ensures.words
                   ∙ (λ z. version_words c.args.row.now (flag z) (c.answer.ensures.vector z) (c.answer.ensures.totals z)) in
                   ap (λ (l : List ℕ). slice_index l j) shown
                   ∙ (same ∙ (is.2 j lt not_touched ∙ ap (λ (l : List ℕ). slice_index l j) (sym words)));
@@ -74,17 +82,15 @@ pub fill_again-requires : goal.fill_again-requires
 fill_again-requires g c =
     let n : ℕ = g.row.N in let w : ℕ = width g.row.C g.row.H g.row.G in let b : ℕ = depth n w in
     let may = c.requires.may in let t = may.images.1 in
-    let r = c.requires.repeats c.if-repeats.true in let q = may.images.2 r.0 in
-    let lends : c.has_view-lends.result ≡ true = direct_views c.has_view-lends.result c.args.ended q.1.0
-    c.has_view-lends.ensures.none q.1.1 in
-    let flag : c.flag_word.result ≡ 1 = c.flag_word.ensures ∙ ap (λ (x : Bool). cond x 1 0) lends in
+    let yes : is_repeat c.args.plan ≡ true = sym c.is_repeat.ensures ∙ c.if-is_repeat.true in
+    let r = c.requires.repeats yes in let q = may.images.2 (same_known c.args.plan (repeat_same c.args.plan yes)) in
     let a = answer_of c.args.memory.now c.args.ended in
     let hidden = c.as_mut_slice-hidden.ensures.value in let v = c.new-version.result in
     let all : length v.vector.now ≡ n = ap (λ (l : List ℕ). length l) c.new-version.ensures.view.0 ∙ c.answer.ensures.lengths.0 in
     let long : length v.totals.now ≡ w = ap (λ (l : List ℕ). length l) c.new-version.ensures.view.1 ∙ c.answer.ensures.lengths.1 in
     let words : target_of v ≡ version_words c.args.row.now 1 a.vector a.totals = c.new-version.ensures.words
-    ∙ (λ z. version_words c.args.row.now (flag z) (c.answer.ensures.vector z) (c.answer.ensures.totals z)) in
-    let listed = r.1.listed in (
+    ∙ (λ z. version_words c.args.row.now 1 (c.answer.ensures.vector z) (c.answer.ensures.totals z)) in
+    let listed = r.0.listed in (
       search rules,
       (
         search rules,
@@ -100,8 +106,8 @@ fill_again-requires g c =
               (
                 may.touched,
                 λ j lt not_touched none.
-                    let not_late = r.2.only j none in
-                    let not_recent = r.1.only j not_late not_touched in
+                    let not_late = r.1.only j none in
+                    let not_recent = r.0.only j not_late not_touched in
                     let e = t.shown_deep in let e' = t.idle_deep in
                     ap (λ (l : List ℕ). slice_index l j) hidden
                     ∙ (t.recent listed.0 j (omega (arith, lt, e)) not_recent
@@ -114,44 +120,41 @@ fill_again-requires g c =
       ),
     )
 
-pub returns-then-repeats-clause-fills : goal.returns-then-repeats-clause-fills
-returns-then-repeats-clause-fills g c =
+pub returns-then-is_repeat-clause-fills : goal.returns-then-is_repeat-clause-fills
+returns-then-is_repeat-clause-fills g c =
     let old = c.args.images.now.hidden in let new = c.fill_again.new.hidden in let n = c.as_mut_slice-hidden.ensures.len in
     subst (λ (l : List ℕ). HasFilled c.args.board.now l c.args.seat.now c.fill_again.new.seat)
     (sym (written new c.as_mut_slice-hidden.result.now old.items old.len c.as_mut_slice-hidden.ensures.value n c.fill_again.auto.hidden))
     c.fill_again.ensures.fills
 
-pub returns-then-repeats-clause-hidden : goal.returns-then-repeats-clause-hidden
-returns-then-repeats-clause-hidden g c =
+pub returns-then-is_repeat-clause-hidden : goal.returns-then-is_repeat-clause-hidden
+returns-then-is_repeat-clause-hidden g c =
     let old = c.args.images.now.hidden in let new = c.fill_again.new.hidden in let n = c.as_mut_slice-hidden.ensures.len in
     written new c.as_mut_slice-hidden.result.now old.items old.len c.as_mut_slice-hidden.ensures.value n c.fill_again.auto.hidden
     ∙ (c.fill_again.ensures.hidden ∙ (c.new-version.ensures.words
-    ∙ (λ z. version_words c.args.row.now (c.flag_word.ensures z) (c.answer.ensures.vector z) (c.answer.ensures.totals z))))
+    ∙ (λ z. version_words c.args.row.now 1 (c.answer.ensures.vector z) (c.answer.ensures.totals z))))
 
-pub returns-then-repeats-clause-recent : goal.returns-then-repeats-clause-recent
-returns-then-repeats-clause-recent g c = λ _ j lt not.
+pub returns-then-is_repeat-clause-recent : goal.returns-then-is_repeat-clause-recent
+returns-then-is_repeat-clause-recent g c = λ _ j lt not.
     let w : ℕ = width g.row.C g.row.H g.row.G in
     let may = c.requires.may in let t = may.images.1 in
-    let r = c.requires.repeats c.if-repeats.true in let q = may.images.2 r.0 in
-    let lends : c.has_view-lends.result ≡ true = direct_views c.has_view-lends.result c.args.ended q.1.0
-    c.has_view-lends.ensures.none q.1.1 in
-    let here = returns-then-repeats-clause-hidden g c
-    ∙ ap (λ (x : Bool). version_words c.args.row.now (cond x 1 0) (answer_of c.args.memory.now c.args.ended).vector
-    (answer_of c.args.memory.now c.args.ended).totals) lends in
+    let yes : is_repeat c.args.plan ≡ true = sym c.is_repeat.ensures ∙ c.if-is_repeat.true in
+    let r = c.requires.repeats yes in let q = may.images.2 (same_known c.args.plan (repeat_same c.args.plan yes)) in
+    let here = returns-then-is_repeat-clause-hidden g c in
     let old = c.args.images.now.hidden in let new = c.fill_again.new.hidden in let n = c.as_mut_slice-hidden.ensures.len in
     let same = ap (λ (l : List ℕ). length l) (written new c.as_mut_slice-hidden.result.now old.items old.len
     c.as_mut_slice-hidden.ensures.value n c.fill_again.auto.hidden) in
     let deep = c.fill_again.auto.hidden in let e = t.hidden_deep in let e' = t.idle_deep in
     let long = ap (λ (l : List ℕ). length l) c.as_mut_slice-hidden.ensures.value in
     let lt' : j < depth g.row.N w = omega (arith, lt, same, deep, long, e) in
-    t.late r.1.listed.1 j (omega (arith, lt', e')) (r.1.late_too j not)
-    ∙ (q.2 j lt' (r.1.touched_too j not) ∙ ap (λ (l : List ℕ). slice_index l j) (sym here))
+    t.late r.0.listed.1 j (omega (arith, lt', e')) (r.0.late_too j not)
+    ∙ (q.2 j lt' (r.0.touched_too j not) ∙ ap (λ (l : List ℕ). slice_index l j) (sym here))
 
-pub returns-then-repeats-clause-joined : goal.returns-then-repeats-clause-joined
-returns-then-repeats-clause-joined g c = λ _. (c.requires.repeats c.if-repeats.true).1
+pub returns-then-is_repeat-clause-joined : goal.returns-then-is_repeat-clause-joined
+returns-then-is_repeat-clause-joined g c = λ _. (c.requires.repeats (sym c.is_repeat.ensures ∙ c.if-is_repeat.true)).0
 
-pub returns-then-repeats-clause-inside : goal.returns-then-repeats-clause-inside
-returns-then-repeats-clause-inside g c = c.requires.may.images.1.recent_inside
+pub returns-then-is_repeat-clause-inside : goal.returns-then-is_repeat-clause-inside
+returns-then-is_repeat-clause-inside g c = c.requires.may.images.1.recent_inside
 
 pub returns-clause-joined : goal.returns-clause-joined
 returns-clause-joined g c = λ yes.
@@ -169,8 +172,8 @@ pub returns-clause-hidden : goal.returns-clause-hidden
 returns-clause-hidden g c =
     let old = c.args.images.now.hidden in let new = c.fill_next.new.hidden in let n = c.as_mut_slice.ensures.len in
     written new c.as_mut_slice.result.now old.items old.len c.as_mut_slice.ensures.value n c.fill_next.auto.hidden
-    ∙ (c.fill_next.ensures.hidden ∙ (c.new-version.ensures.words
-    ∙ (λ z. version_words c.args.row.now (c.flag_word.ensures z) (c.answer.ensures.vector z) (c.answer.ensures.totals z))))
+    ∙ (c.fill_next.ensures.hidden ∙ (c.new-version-2.ensures.words
+    ∙ (λ z. version_words c.args.row.now ((c.from.ensures ∙ flag_is c.has_view-lends.result) z) (c.answer.ensures.vector z) (c.answer.ensures.totals z))))
 
 pub returns-clause-recent : goal.returns-clause-recent
 returns-clause-recent g c =
@@ -178,5 +181,5 @@ returns-clause-recent g c =
     subst (DifferAt c.fill_next.new.recent c.args.images.now.shown.items)
     (sym (written new c.as_mut_slice.result.now old.items old.len c.as_mut_slice.ensures.value n c.fill_next.auto.hidden
     ∙ c.fill_next.ensures.hidden))
-    (subst (λ (l : List ℕ). DifferAt c.fill_next.new.recent l (target_of c.new-version.result)) c.as_slice.ensures.value
+    (subst (λ (l : List ℕ). DifferAt c.fill_next.new.recent l (target_of c.new-version-2.result)) c.as_slice.ensures.value
     c.fill_next.ensures.recent)

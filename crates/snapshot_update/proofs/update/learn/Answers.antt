@@ -1,4 +1,4 @@
-use Rattle.std.proofs.Common.{ℕ, List, Contains, sym, subst, rules}
+use Rattle.std.proofs.Common.{ℕ, List, Contains, sym, ◌∙◌, subst, rules}
 use Rattle.snapshot_update.proofs.update.learn.Goals as goal
 
 pub remember_at-requires : goal.remember_at-requires
@@ -10,7 +10,7 @@ remember_at-requires g c = let same = c.as_slice.ensures.listed in (
       c.requires.inside,
       (
         λ j has. c.requires.touched j (subst (λ (l : List ℕ). Contains l j) same has),
-        λ v at k lt none. c.requires.known c.if-known.true v at k lt
+        λ v at k lt none. c.requires.known (sym c.is_known.ensures ∙ c.if-is_known.true) v at k lt
             (λ has. none (subst (λ (l : List ℕ). Contains l k) (sym same) has)),
       ),
     ),

@@ -15,16 +15,16 @@ list_late-requires g c = record {
 listed_if : (l : List ℕ) (j : ℕ) → ((Contains l j → ⊥) → ⊥) → Contains l j
 listed_if l j h = ⊎_elim (λ has. has) (λ none. absurd (h none)) (listed_or l j)
 
-pub returns-then-repeats-clause-number : goal.returns-then-repeats-clause-number
-returns-then-repeats-clause-number g c = λ listed.
-    let late = (c.requires.repeats c.if-repeats.true).4 in listed_if _ _ (λ none. late.number _ none refl)
+pub returns-then-is_repeat-clause-number : goal.returns-then-is_repeat-clause-number
+returns-then-is_repeat-clause-number g c = λ listed.
+    let late = (c.requires.repeats (sym c.is_repeat.ensures ∙ c.if-is_repeat.true)).2 in listed_if _ _ (λ none. late.number _ none refl)
 
-pub returns-then-repeats-clause-totals : goal.returns-then-repeats-clause-totals
-returns-then-repeats-clause-totals g c = λ listed k has.
-    let late = (c.requires.repeats c.if-repeats.true).4 in listed_if _ _ (λ none. late.totals k none has)
+pub returns-then-is_repeat-clause-totals : goal.returns-then-is_repeat-clause-totals
+returns-then-is_repeat-clause-totals g c = λ listed k has.
+    let late = (c.requires.repeats (sym c.is_repeat.ensures ∙ c.if-is_repeat.true)).2 in listed_if _ _ (λ none. late.totals k none has)
 
-pub returns-then-repeats-clause-inside : goal.returns-then-repeats-clause-inside
-returns-then-repeats-clause-inside g c = (c.requires.repeats c.if-repeats.true).3
+pub returns-then-is_repeat-clause-inside : goal.returns-then-is_repeat-clause-inside
+returns-then-is_repeat-clause-inside g c = (c.requires.repeats (sym c.is_repeat.ensures ∙ c.if-is_repeat.true)).1
 
 pub returns-clause-totals : goal.returns-clause-totals
 returns-clause-totals g c = λ listed k has. let e = c.item_at.ensures.place in
@@ -37,8 +37,8 @@ returns-clause-inside g c = λ j has. let e = c.item_at.ensures.place in let e' 
     ⊎_elim (λ h. omega (arith, e', own, h)) (λ t. let lt = c.requires.touched t.0 t.1 in let h = t.2 in omega (arith, e, lt, h))
     (c.list_late.ensures.others j has)
 
-pub returns-then-repeats-clause-only : goal.returns-then-repeats-clause-only
-returns-then-repeats-clause-only g c = λ listed j apart. (c.requires.repeats c.if-repeats.true).4.only j apart
+pub returns-then-is_repeat-clause-only : goal.returns-then-is_repeat-clause-only
+returns-then-is_repeat-clause-only g c = λ listed j apart. (c.requires.repeats (sym c.is_repeat.ensures ∙ c.if-is_repeat.true)).2.only j apart
 
 pub returns-clause-only : goal.returns-clause-only
 returns-clause-only g c = λ listed j apart has.
@@ -49,4 +49,4 @@ returns-clause-only g c = λ listed j apart has.
 pub returns-clause-joined : goal.returns-clause-joined
 returns-clause-joined g c = λ yes.
     let outer = and_parts _ _ yes in let inner = and_parts _ _ outer.0 in
-    (inner.0, inner.1, sym c.is_all.ensures ∙ not-true _ outer.1)
+    (inner.0, sym c.is_same.ensures ∙ inner.1, sym c.is_all.ensures ∙ not-true _ outer.1)

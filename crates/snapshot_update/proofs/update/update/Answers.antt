@@ -3,7 +3,6 @@ use Rattle.std.proofs.Common.{take, set, slice_index, Contains, sym, refl, ap, �
 use mathlib.Core.Option.{some, some-injective}
 use lib.ListN.{get_elem?}
 use Rattle.std.proofs.lemmas.List.{length_push}
-use Rattle.std.proofs.lemmas.Bool.{and_parts}
 use Rattle.ledger_core.specs.Ops.{width, sum_ops}
 use Rattle.ledger_core.specs.Row.{Accepts}
 use Rattle.segment_layout.specs.Layout.{depth}
@@ -22,11 +21,13 @@ use Rattle.snapshot_scan.specs.ChangedItems.{ChangedView}
 use Rattle.snapshot_update.specs.declared.buffer_images.BufferImages.{BufferImages}
 use Rattle.snapshot_update.specs.BufferImages.{DifferAt, version_words, with_hidden}
 use Rattle.snapshot_update.specs.Fit.{AreInside, AreImages, IsNoneOf, AreLate, AreJoined, number_in, idle_words}
+use Rattle.snapshot_update.specs.Plans.{is_known, with_late}
 use Rattle.snapshot_update.specs.Updated.{ScanCameTo, IsRuledAlone}
 use Rattle.snapshot_update.proofs.VersionWords.{known_words, late_words, words_long, row_taken, numbers_long}
 use Rattle.register_rule.proofs.Publish.{total_last}
 use Rattle.snapshot_update.proofs.Fitting.{answer_long, rows_many, accepts_same, holds}
 use Rattle.snapshot_update.proofs.Following.{next_is}
+use Rattle.snapshot_update.proofs.Planning.{repeat_same}
 use Rattle.snapshot_update.proofs.update.update.Goals as goal
 
 -- what is touched says nothing of the images
@@ -87,7 +88,7 @@ fill_version-lends-requires g c =
     let row = c.args.row.now in let row' = c.try_apply.new.self in let adds = c.in_ok-try_apply.ensures.ok in
     let wide : length row ≡ w = fit.wide in
     let a = answer_of memory s.result in let long = answer_long n g.row.C g.row.H g.row.G memory s.result in
-    let known = c.know_next-known.result.0 in (
+    let plan = c.know_next-plan in (
       search rules,
       (
         search rules,
@@ -97,21 +98,27 @@ fill_version-lends-requires g c =
             record {
               stores = record {
                 of_board = s.ensures.scans.of_board;
-                exact = ap (λ (m : Member). m.work.hidden) s.ensures.scans.others ∙ fit.hidden_is;
+                exact = ap (λ (m : Member). m.work.hidden) s.ensures.scans.others ∙ (fit.hidden_is
+                    ∙ sym (ap (λ (x : BufferImages). x.hidden.items) plan.ensures.others));
               };
               geometry = c.requires.geometry;
-              touched = c.touch-again.ensures.inside;
-              images = by_known known (λ yes.
+              touched = subst (λ (x : BufferImages). AreInside w x.touched) (sym plan.ensures.others) c.touch-again.ensures.inside;
+              images = subst (λ (x : BufferImages). (idle : List ℕ) × AreImages b idle x
+                  × (is_known plan.result ≡ true → (x.touched.all ≡ false) × ((quiet : Bool) × (s.result ≡ Direct quiet))
+                  × ((j : ℕ) → j < b → ¬ (Contains x.touched.items j)
+                  → slice_index idle j ≡ slice_index (version_words row' 1 a.vector a.totals) j)))
+                  (sym plan.ensures.others)
+                  (by_known (is_known plan.result) (λ yes.
                   let next = next_is n g.row.C g.row.H g.row.G (index_of c.args.seat.now) row c.args.memory.now memory im
-                  c.know_next-known.new.late (worker_of c.args.seat.now) (worker_of s.new.seat) s.result
+                  c.know_next-plan.new.images.late (worker_of c.args.seat.now) (worker_of s.new.seat) s.result
                   fit c.requires.of_board.1 s.ensures.scans.others s.ensures.scans.ruled s.ensures.ready s.ensures.quiet
                   s.ensures.numbers
                   s.ensures.listed.same (index_of s.new.seat) _ s.ensures.scans.index
-                  (ap (λ (x : Member). length x.work.made) s.ensures.scans.others) (c.know_next-known.ensures.known yes) in
-                  let listed : c.touch-again.new.touched.all ≡ false = c.know_next-known.ensures.touched yes in (
+                  (ap (λ (x : Member). length x.work.made) s.ensures.scans.others) (c.know_next-plan.ensures.known yes) in
+                  let listed : c.touch-again.new.touched.all ≡ false = c.know_next-plan.ensures.touched yes in (
                     idle_words row (rows_of memory) (totals_in memory),
-                    touched_images b _ (record im { late = c.know_next-known.new.late }) c.touch-again.new.touched c.touch-again.new.spare
-                        next.images,
+                    touched_images b _ (with_late c.know_next-plan.new.images.late im) c.touch-again.new.touched
+                        c.touch-again.new.spare next.images,
                     λ _. (
                       listed,
                       next.direct,
@@ -127,21 +134,23 @@ fill_version-lends-requires g c =
                     subst (λ (x : ChangedView). AreImages b (idle_words row (rows_of c.args.memory.now)
                         (totals_in c.args.memory.now))
                         (record im { late = x; touched = c.touch-again.new.touched; spare = c.touch-again.new.spare })) (sym
-                        (c.know_next-known.ensures.unknown no))
+                        (c.know_next-plan.ensures.unknown no))
                         (touched_images b _ im c.touch-again.new.touched c.touch-again.new.spare fit.images),
                     λ yes. absurd (let h = sym yes ∙ no in cc),
-                  ));
+                  )));
             },
             λ yes.
-                let both = and_parts _ _ yes in let same = and_parts _ _ both.1 in
-                let still = c.know_next-known.ensures.still same.1 in let again = c.touch-again.ensures.again same.0 in
-                let cov = fit.joined both.0 in
-                let at : index_of s.new.seat ≡ index_of c.args.seat.now = s.ensures.scans.index in (
-                  still.0,
-                  subst (λ (x : ChangedView). AreJoined im.recent x c.touch-again.new.touched) (sym still.1)
+                let same = repeat_same plan.result yes in
+                let joined : im.joined ≡ true = sym (plan.ensures.repeats same) ∙ yes in
+                let kept = plan.ensures.same same in let again = c.touch-again.ensures.again kept.0 in
+                let cov = fit.joined joined in
+                let at : index_of s.new.seat ≡ index_of c.args.seat.now = s.ensures.scans.index in
+                subst (λ (x : BufferImages). AreJoined x.recent x.late x.touched
+                × AreLate n w (index_of s.new.seat) x.touched x.late) (sym plan.ensures.others) (
+                  subst (λ (x : ChangedView). AreJoined im.recent x c.touch-again.new.touched) (sym kept.1)
                       (subst (λ (x : ChangedView). AreJoined im.recent im.late x) (sym again) cov),
-                  late_before n w (index_of s.new.seat) im.touched c.touch-again.new.touched im.late c.know_next-known.new.late
-                      again still.1 (subst (λ (i : ℕ). AreLate n w i im.touched im.late) (sym at) (fit.late cov.listed.1)),
+                  late_before n w (index_of s.new.seat) im.touched c.touch-again.new.touched im.late c.know_next-plan.new.images.late
+                      again kept.1 (subst (λ (i : ℕ). AreLate n w i im.touched im.late) (sym at) (fit.late cov.listed.1)),
                 ),
           ),
         ),
@@ -186,22 +195,23 @@ publish-requires g c =
     )
 
 pub turn-requires-clause-touched : goal.turn-requires-clause-touched
-turn-requires-clause-touched g c = subst (AreInside (width g.row.C g.row.H g.row.G)) (sym c.fill_version-lends.ensures.others.2)
+turn-requires-clause-touched g c = subst (AreInside (width g.row.C g.row.H g.row.G)) (sym
+    (c.fill_version-lends.ensures.others.2 ∙ ap (λ (x : BufferImages). x.touched) c.know_next-plan.ensures.others))
     c.touch-again.ensures.inside
 
 pub turn-requires-clause-repeats : goal.turn-requires-clause-repeats
 turn-requires-clause-repeats g c = λ yes.
     let n : ℕ = g.row.N in let w : ℕ = width g.row.C g.row.H g.row.G in
     let fit = c.requires.fit in let s = c.scan_for_update-ended in let f = c.fill_version-lends in let im = c.args.images.now in
-    let both = and_parts _ _ yes in let same = and_parts _ _ both.1 in
-    let still = c.know_next-known.ensures.still same.1 in let again = c.touch-again.ensures.again same.0 in
-    let cov = fit.joined both.0 in
-    let late : f.new.images.late ≡ im.late = f.ensures.others.1 ∙ still.1 in
-    let touched : f.new.images.touched ≡ im.touched = f.ensures.others.2 ∙ again in
+    let plan = c.know_next-plan in let same = repeat_same plan.result yes in
+    let joined : im.joined ≡ true = sym (plan.ensures.repeats same) ∙ yes in
+    let kept = plan.ensures.same same in let again = c.touch-again.ensures.again kept.0 in
+    let cov = fit.joined joined in
+    let late : f.new.images.late ≡ im.late = f.ensures.others.1 ∙ kept.1 in
+    let touched : f.new.images.touched ≡ im.touched = f.ensures.others.2
+    ∙ (ap (λ (x : BufferImages). x.touched) plan.ensures.others ∙ again) in
     let at : c.worker-index.result ≡ index_of c.args.seat.now = c.worker-index.ensures.index
     ∙ (c.publish.ensures.index ∙ (f.ensures.fills.index ∙ s.ensures.scans.index)) in (
-      still.0,
-      both.1,
       ap (λ (x : ChangedView). x.all) late ∙ cov.listed.1,
       subst (AreInside (depth n w)) (sym late) fit.images.late_inside,
       late_before n w c.worker-index.result im.touched f.new.images.touched im.late f.new.images.late touched late
@@ -217,7 +227,8 @@ learn-requires g c =
     let i : ℕ = index_of c.args.seat.now in
     let same : c.worker-index.result ≡ i = c.worker-index.ensures.index
     ∙ (c.publish.ensures.index ∙ (f.ensures.fills.index ∙ s.ensures.scans.index)) in
-    let touched : c.turn.new.images.touched ≡ c.touch-again.new.touched = c.turn.ensures.others.1 ∙ f.ensures.others.2 in (
+    let touched : c.turn.new.images.touched ≡ c.touch-again.new.touched = c.turn.ensures.others.1 ∙ (f.ensures.others.2
+    ∙ ap (λ (x : BufferImages). x.touched) c.know_next-plan.ensures.others) in (
       search rules,
       (
         search rules,
@@ -227,12 +238,12 @@ learn-requires g c =
           touched = subst (AreInside w) (sym touched) c.touch-again.ensures.inside;
           known = λ yes v at k lt none.
               let next = next_is n g.row.C g.row.H g.row.G (index_of c.args.seat.now) row c.args.memory.now memory im
-              c.know_next-known.new.late (worker_of c.args.seat.now) (worker_of s.new.seat) s.result
+              c.know_next-plan.new.images.late (worker_of c.args.seat.now) (worker_of s.new.seat) s.result
               fit c.requires.of_board.1 s.ensures.scans.others s.ensures.scans.ruled s.ensures.ready s.ensures.quiet
               s.ensures.numbers
               s.ensures.listed.same (index_of s.new.seat) _ s.ensures.scans.index
-              (ap (λ (x : Member). length x.work.made) s.ensures.scans.others) (c.know_next-known.ensures.known yes) in
-              let listed : c.touch-again.new.touched.all ≡ false = c.know_next-known.ensures.touched yes in
+              (ap (λ (x : Member). length x.work.made) s.ensures.scans.others) (c.know_next-plan.ensures.known yes) in
+              let listed : c.touch-again.new.touched.all ≡ false = c.know_next-plan.ensures.touched yes in
               let here : some v ≡ some (record { number = length (worker_of c.args.seat.now).work.made; row = row }) = sym at
               ∙ (ap (get_elem? (rows_of memory)) same ∙ next.row_known) in
               let e = ap (λ (x : Version). slice_index x.row k) (some-injective v _ here) in
@@ -289,7 +300,11 @@ returns-clause-fit g c =
     let after = c.learn.new.memory in
     let all_after : length (map number_in (rows_of after)) ≡ n = numbers_long (rows_of after)
     ∙ rows_many n g.row.C g.row.H g.row.G after in
-    let known = c.know_next-known.result.0 in
+    let plan = c.know_next-plan in
+    let shown : f.new.images.shown.items ≡ im.shown.items = f.ensures.others.0
+    ∙ ap (λ (x : BufferImages). x.shown.items) plan.ensures.others in
+    let touched : f.new.images.touched ≡ c.touch-again.new.touched = f.ensures.others.2
+    ∙ ap (λ (x : BufferImages). x.touched) plan.ensures.others in
     record {
       who = c.publish.new.seat.is;
       counts = refl;
@@ -308,29 +323,30 @@ returns-clause-fit g c =
             ∙ sym rows');
         rest = ap (λ (x : Member). x.scan.trying) is3 ∙ s.ensures.ready.rest;
       };
-      hidden_is = ap (λ (x : Member). x.work.hidden) is3 ∙ (fit.shown_is ∙ sym (c.turn.ensures.buffers.0 ∙ f.ensures.others.0));
+      hidden_is = ap (λ (x : Member). x.work.hidden) is3 ∙ (fit.shown_is ∙ sym (c.turn.ensures.buffers.0 ∙ shown));
       shown_is = ap (λ (x : Member). x.work.shown) is3 ∙ sym c.turn.ensures.buffers.1;
       images = record {
         idle_deep = (let e = words_long w n row' 1 (map number_in (rows_of after)) (totals_in after) wide' all_after w
             after.sizes.1 in omega (arith, e));
-        hidden_deep = ap (λ (l : List ℕ). length l) (c.turn.ensures.buffers.0 ∙ f.ensures.others.0) ∙ fit.images.shown_deep;
+        hidden_deep = ap (λ (l : List ℕ). length l) (c.turn.ensures.buffers.0 ∙ shown) ∙ fit.images.shown_deep;
         shown_deep = (let e = words_long w n row' (cond f.result 1 0) a.vector a.totals wide' long.0 w long.1 in
             let d = ap (λ (l : List ℕ). length l) (c.turn.ensures.buffers.1 ∙ hidden) in omega (arith, e, d));
         recent = subst (λ (x : ChangedView). DifferAt x c.turn.new.images.hidden.items c.turn.new.images.shown.items)
             (sym c.turn.ensures.others.0)
             (subst (λ (x : List ℕ). DifferAt f.new.images.recent x c.turn.new.images.shown.items)
-            (sym (c.turn.ensures.buffers.0 ∙ f.ensures.others.0))
-            (subst (DifferAt f.new.images.recent c.args.images.now.shown.items) (sym c.turn.ensures.buffers.1) f.ensures.recent));
+            (sym (c.turn.ensures.buffers.0 ∙ shown))
+            (subst (DifferAt f.new.images.recent im.shown.items) (sym c.turn.ensures.buffers.1)
+            (subst (λ (x : BufferImages). DifferAt f.new.images.recent x.shown.items f.new.images.hidden.items) plan.ensures.others
+            f.ensures.recent)));
         recent_inside = subst (AreInside b) (sym c.turn.ensures.others.0) f.ensures.inside;
-        late = by_known known (λ yes.
+        late = by_known (is_known plan.result) (λ yes.
             let next = next_is n g.row.C g.row.H g.row.G (index_of c.args.seat.now) row c.args.memory.now memory im
-            c.know_next-known.new.late (worker_of c.args.seat.now) (worker_of s.new.seat) s.result
+            c.know_next-plan.new.images.late (worker_of c.args.seat.now) (worker_of s.new.seat) s.result
             fit c.requires.of_board.1 s.ensures.scans.others s.ensures.scans.ruled s.ensures.ready s.ensures.quiet
             s.ensures.numbers
             s.ensures.listed.same (index_of s.new.seat) _ s.ensures.scans.index
-            (ap (λ (x : Member). length x.work.made) s.ensures.scans.others) (c.know_next-known.ensures.known yes) in
-            let listed : c.touch-again.new.touched.all ≡ false = c.know_next-known.ensures.touched yes in
-            let touched : f.new.images.touched ≡ c.touch-again.new.touched = f.ensures.others.2 in
+            (ap (λ (x : Member). length x.work.made) s.ensures.scans.others) (c.know_next-plan.ensures.known yes) in
+            let listed : c.touch-again.new.touched.all ≡ false = c.know_next-plan.ensures.touched yes in
             let yes' : f.result ≡ true = lends_direct f.result s.result next.direct.0 f.ensures.none next.direct.1 in
             let words : c.turn.new.images.shown.items ≡ version_words row' 1 a.vector a.totals = c.turn.ensures.buffers.1
             ∙ (hidden ∙ ap (λ (t : Bool). version_words row' (cond t 1 0) a.vector a.totals) yes') in
@@ -359,13 +375,13 @@ returns-clause-fit g c =
             c.turn.ensures.others.1 none);
       };
       joined = λ yes.
-          let t = c.turn.ensures.joined yes in let cov = f.ensures.joined t.0 in let same = and_parts _ _ t.1 in
-          let still = c.know_next-known.ensures.still same.1 in let again = c.touch-again.ensures.again same.0 in
-          let late : f.new.images.late ≡ im.late = f.ensures.others.1 ∙ still.1 in
-          let touched : f.new.images.touched ≡ im.touched = f.ensures.others.2 ∙ again in
+          let t = c.turn.ensures.joined yes in let cov = f.ensures.joined t.0 in
+          let kept = plan.ensures.same t.1 in let again = c.touch-again.ensures.again kept.0 in
+          let late : f.new.images.late ≡ im.late = f.ensures.others.1 ∙ kept.1 in
+          let touched' : f.new.images.touched ≡ im.touched = touched ∙ again in
           let few : im.late.all ≡ false = ap (λ (x : ChangedView). x.all) (sym late) ∙ cov.listed.1 in
           let are : AreLate n w c.worker-index.result f.new.images.touched f.new.images.late =
-          late_before n w c.worker-index.result im.touched f.new.images.touched im.late f.new.images.late touched late
+          late_before n w c.worker-index.result im.touched f.new.images.touched im.late f.new.images.late touched' late
           (subst (λ (k : ℕ). AreLate n w k im.touched im.late) (sym own') (fit.late few)) in
           subst (λ (x : ChangedView). AreJoined c.turn.new.images.recent c.turn.new.images.late x) (sym c.turn.ensures.others.1)
           (subst (λ (x : ChangedView). AreJoined x c.turn.new.images.late f.new.images.touched) (sym c.turn.ensures.others.0)
