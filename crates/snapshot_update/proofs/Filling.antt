@@ -101,6 +101,10 @@ listed_or (x ∷ xs) j = elim (cases_eq x j) [
       (listed_or xs j)
 ]
 
+-- what is not missing is listed
+pub listed_if : (xs : List ℕ) (j : ℕ) → ((Contains xs j → ⊥) → ⊥) → Contains xs j
+listed_if xs j h = ⊎_elim (λ has. has) (λ none. absurd (h none)) (listed_or xs j)
+
 -- a buffer that has the word that it should at each item
 pub all_filled : (xs ys : List ℕ) (n : ℕ) → length xs ≡ n → length ys ≡ n → ((j : ℕ) → j < n → get_or xs j 0 ≡ get_or ys j 0)
     → xs ≡ ys

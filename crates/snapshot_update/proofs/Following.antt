@@ -21,7 +21,7 @@ use Rattle.snapshot_scan.specs.ScanMemories.{rows_of, totals_in, changed_totals_
 use Rattle.snapshot_scan.proofs.Words.{same_words}
 use Rattle.snapshot_update.specs.declared.buffer_images.BufferImages.{BufferImages}
 use Rattle.snapshot_update.specs.Fit.{AreInside, AreImages, number_in, idle_words, IsFit}
-use Rattle.snapshot_update.specs.Known.{IsStill, NotesRange, ListsChangedTotals, IsFollowed}
+use Rattle.snapshot_update.specs.Known.{IsStill, NotesRange, ListsChangedTotals, IsFollowed, IsNext}
 use Rattle.snapshot_update.specs.Updated.{IsRuledAlone}
 use Rattle.snapshot_update.proofs.VersionWords.{Which, which, in_row, at_flag, in_vector, in_totals, row_word, flag_word}
 use Rattle.snapshot_update.proofs.VersionWords.{total_word, words_long, numbers_long}
@@ -156,16 +156,6 @@ own_known n c h g i m row vector rows is ruled kept lt numbers own wide sums =
     some_at [] i h = absurd (omega (arith, h))
     some_at (v ∷ vs) zero h = (v, refl)
     some_at (v ∷ vs) (suc i) h = some_at vs i (omega (arith, h))
-
--- a scan ended direct, and the version after it is known: its numbers and sums are those of the remembered rows, of which the
--- worker's own is its row, and where the shown buffer may differ from it is listed as late
-pub record IsNext (n c h g i number : ℕ) (row : List ℕ) (memory : ScanMemory n c h g) (ended : ScanEnd) (im : BufferImages)
-    : Type 0 where
-  pub direct : (quiet : Bool) × (ended ≡ Direct quiet)
-  pub numbers : AreNumbers (answer_of memory ended).vector (rows_of memory)
-  pub totals : (answer_of memory ended).totals ≡ totals_in memory
-  pub row_known : get_elem? (rows_of memory) i ≡ some (record { number = number; row = row })
-  pub images : AreImages (depth n (width c h g)) (idle_words row (rows_of memory) (totals_in memory)) im
 
 -- m has scanned, and is m' now
 module _ (n c h g i : ℕ) (row : List ℕ) (memory memory' : ScanMemory n c h g) (im : BufferImages)

@@ -2,6 +2,7 @@ pub mod Touching
 pub mod Filling
 pub mod Giving
 pub mod Planning
+pub mod PublishedFit
 pub mod VersionWords
 pub mod Fitting
 pub mod Following

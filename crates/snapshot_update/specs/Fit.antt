@@ -37,14 +37,14 @@ pub record AreImages (b : ℕ) (idle : List ℕ) (im : BufferImages) : Type 0 wh
   pub late_inside : AreInside b im.late
 
 -- in a buffer of rows of w words on a board of n workers: this item is neither the worker's own number nor the total of a touched word
-abbrev pub IsNoneOf : (n w index : ℕ) → (touched : ChangedView) → ℕ → Type 0
-IsNoneOf n w index touched j = (j ≢ w + 1 + index) × ((k : ℕ) → Contains touched.items k → j ≢ w + 1 + n + k)
+abbrev pub IsNoneOf : (n w index : ℕ) → (touched : List ℕ) → ℕ → Type 0
+IsNoneOf n w index touched j = (j ≢ w + 1 + index) × ((k : ℕ) → Contains touched k → j ≢ w + 1 + n + k)
 
 -- just the worker's own number and the totals of the touched words are late
 pub record AreLate (n w index : ℕ) (touched late : ChangedView) : Type 0 where
   pub number : (j : ℕ) → ¬ (Contains late.items j) → j ≢ w + 1 + index
   pub totals : (k : ℕ) → ¬ (Contains late.items (w + 1 + n + k)) → ¬ (Contains touched.items k)
-  pub only : (j : ℕ) → IsNoneOf n w index touched j → ¬ (Contains late.items j)
+  pub only : (j : ℕ) → IsNoneOf n w index touched.items j → ¬ (Contains late.items j)
 
 -- just the late and the touched items are recent; none of the three lists stands for all items
 pub record AreJoined (recent late touched : ChangedView) : Type 0 where

@@ -1,9 +1,11 @@
 pub mod BufferImages
 pub mod Noting
+pub mod OpWords
 pub mod Known
 pub mod Plans
 pub mod Fit
 pub mod Conditions
+pub mod Publishing
 pub mod Updated
 pub mod Workers
 pub mod Faults

@@ -1,6 +1,7 @@
 -- Noting items at which something changes.
-use Rattle.std.specs.Prelude.{◌≡◌, ℕ, ◌+◌, ◌<◌, ◌≤◌, ◌⊎◌, false, List, length, slice_index, Contains, ◌*◌}
+use Rattle.std.specs.Prelude.{◌≡◌, ℕ, ◌+◌, ◌<◌, ◌≤◌, ◌⊎◌, false, List, [], ◌∷◌, length, slice_index, Contains, ◌*◌}
 use Rattle.ledger_core.specs.declared.op.Op.{Op}
+use Rattle.ledger_core.specs.declared.op.Op.TheVariants.{Inc, Observe, Up, Down}
 use Rattle.ledger_core.specs.Ops.{sum_ops}
 use Rattle.snapshot_scan.specs.ChangedItems.{ChangedView}
 use Rattle.std.specs.Int.{bit_at}
@@ -41,3 +42,10 @@ pub record AreListed (first seen : ℕ) (items : List ℕ) : Type 0 where
 -- in a row of c counters and h histograms: where a histogram has been observed, its words are listed so
 abbrev pub IsRun : (c h : ℕ) → Run → ChangedView → Type 0
 IsRun c h run touched = run.hist < h → touched.all ≡ false → AreListed (c + 27 * run.hist) run.seen touched.items
+
+-- the words of a row of c counters and h histograms that an operation adds to
+abbrev pub words_of : (c h : ℕ) → Op → List ℕ
+words_of c h (Inc counter by) = counter ∷ []
+words_of c h (Observe hist place value) = (c + 27 * hist + 25) ∷ (c + 27 * hist + 26) ∷ (c + 27 * hist + place) ∷ []
+words_of c h (Up gauge by) = (c + 27 * h + 2 * gauge) ∷ []
+words_of c h (Down gauge by) = (c + 27 * h + 2 * gauge + 1) ∷ []

@@ -126,14 +126,14 @@ fn fill_pair<const N: usize, const C: usize, const H: usize, const G: usize>(
     fill_item(board, seat, start, hidden, totals_at + word, total);
 }
 
-/// Fills the touched words of the row, and their totals. An item that had the version's word keeps it.
+/// Fills these words of the row, and their totals. An item that had the version's word keeps it.
 #[inline(always)]
 fn fill_touched<const N: usize, const C: usize, const H: usize, const G: usize>(
     board: &Board<N, C, H, G>,
     seat: &mut WorkSeat,
     start: usize,
     hidden: &mut [u64],
-    touched: &ChangedItems,
+    words: &[usize],
     version: &NextVersion<C, H, G>,
 )
     requires stores { MayStore board.now seat.old hidden.old }
@@ -141,38 +141,37 @@ fn fill_touched<const N: usize, const C: usize, const H: usize, const G: usize>(
     requires few { depth N (width C H G) ≤ 2529 }
     requires lengths { (length hidden.old ≡ depth N (width C H G)) × (length version.now.vector.now ≡ N)
         × (length version.now.totals.now ≡ width C H G) }
-    requires inside { AreInside (width C H G) touched.now }
+    requires inside { (k : ℕ) → Contains words.now k → k < width C H G }
     ensures fills { HasFilled board.now hidden.new seat.old seat.new }
-    ensures rows { (k : ℕ) → Contains touched.now.items k → slice_index hidden.new k ≡ slice_index (target_of version.now) k }
-    ensures totals { (k : ℕ) → Contains touched.now.items k → slice_index hidden.new (width C H G + 1 + N + k) ≡ slice_index
+    ensures rows { (k : ℕ) → Contains words.now k → slice_index hidden.new k ≡ slice_index (target_of version.now) k }
+    ensures totals { (k : ℕ) → Contains words.now k → slice_index hidden.new (width C H G + 1 + N + k) ≡ slice_index
         (target_of version.now) (width C H G + 1 + N + k) }
     ensures kept { (j : ℕ) → slice_index hidden.old j ≡ slice_index (target_of version.now) j
         → slice_index hidden.new j ≡ slice_index (target_of version.now) j }
 {
     let totals_at = item_at(N, C, H, G, Item::Flag) + 1 + N;
-    let words = touched.as_slice();
     for &word in words {
         fill_pair(board, seat, start, hidden, word, totals_at, version);
     }
 }
 
-/// Fills the hidden buffer with the version, where it differs from it at no items but the worker's own number, the touched words of the row,
+/// Fills the hidden buffer with the version, where it differs from it at no items but the worker's own number, these words of the row,
 /// and their totals.
 #[inline(always)]
 pub(crate) fn fill_again<const N: usize, const C: usize, const H: usize, const G: usize>(
     board: &Board<N, C, H, G>,
     seat: &mut WorkSeat,
     hidden: &mut [u64],
-    touched: &ChangedItems,
+    words: &[usize],
     version: &NextVersion<C, H, G>,
 )
     requires stores { MayStore board.now seat.old hidden.old }
     requires geometry { IsGeometry N C H G }
     requires lengths { (length hidden.old ≡ depth N (width C H G)) × (length version.now.vector.now ≡ N)
         × (length version.now.totals.now ≡ width C H G) }
-    requires inside { AreInside (width C H G) touched.now }
-    requires known { (j : ℕ) → j < depth N (width C H G) → ¬ (Contains touched.now.items j)
-        → IsNoneOf N (width C H G) (index_of seat.old) touched.now j
+    requires inside { (k : ℕ) → Contains words.now k → k < width C H G }
+    requires known { (j : ℕ) → j < depth N (width C H G) → ¬ (Contains words.now j)
+        → IsNoneOf N (width C H G) (index_of seat.old) words.now j
         → slice_index hidden.old j ≡ slice_index (target_of version.now) j }
     ensures fills { HasFilled board.now hidden.new seat.old seat.new }
     ensures hidden { hidden.new ≡ target_of version.now }
@@ -182,7 +181,7 @@ pub(crate) fn fill_again<const N: usize, const C: usize, const H: usize, const G
     let number_item = item_at(N, C, H, G, Item::Vector { worker });
     let number = version.number_of(worker);
     fill_item(board, seat, start, hidden, number_item, number);
-    fill_touched(board, seat, start, hidden, touched, version);
+    fill_touched(board, seat, start, hidden, words, version);
 }
 
 /// Fills the items from `from` on and before `to` of the hidden buffer with the version, where those before are filled, and

@@ -16,9 +16,9 @@ use register_rule::WorkSeat;
 use segment_layout::{Item, item_at};
 use snapshot_scan::{ChangedItems, ScanEnd, ScanMemory};
 
-/// What is known of the version that an update publishes, once its scan has `ended`. Where that is known to differ from what the
-/// shown buffer holds at no items but the late and the touched ones, what the scan found anew is listed as late, too. `again` says
-/// that the touched words are those of the update before.
+/// What is known of the version that an update publishes, once its scan has `ended`. Where that is known to differ from what
+/// the shown buffer holds at no items but the late and the touched ones, what the scan found anew is listed as late, too; else
+/// all may be late. `again` says that the touched words are those of the update before.
 #[inline(always)]
 pub(crate) fn know_next<const N: usize, const C: usize, const H: usize, const G: usize>(
     seat: &WorkSeat,
@@ -35,13 +35,14 @@ pub(crate) fn know_next<const N: usize, const C: usize, const H: usize, const G:
     ensures known { is_known result ≡ true → IsStill ended images.old.row_known images.old.late images.new.late
         ⊎ IsFollowed N C H G (index_of seat.now) (length (worker_of seat.now).work.made) memory.now ended images.old.late
         images.new.late }
-    ensures unknown { is_known result ≡ false → images.new.late ≡ images.old.late }
-    ensures same { is_same result ≡ true → (again ≡ true) × (images.new.late ≡ images.old.late) }
+    ensures unknown { is_known result ≡ false → (images.new.late.all ≡ true) × (images.new.late.items ≡ images.old.late.items) }
+    ensures same { is_same result ≡ true → (again ≡ true) × (images.old.row_known ≡ true)
+        × (images.new.late ≡ images.old.late) }
     ensures repeats { is_same result ≡ true → is_repeat result ≡ images.old.joined }
     ensures sees { ended ≡ ScanEnd.Direct true → images.old.touched.all ≡ false → images.old.row_known ≡ true
         → (is_known result ≡ true) × (is_same result ≡ again) × (images.new.late ≡ images.old.late) }
 {
-    if ended.is_quiet() & !images.touched.is_all() & images.row_known {
+    if ended.is_quiet() && !images.touched.is_all() & images.row_known {
         return if again & images.joined {
             Plan::Repeats
         } else if again {
@@ -51,14 +52,15 @@ pub(crate) fn know_next<const N: usize, const C: usize, const H: usize, const G:
         };
     }
     if follow(seat, memory, &mut images.late, &images.touched, ended) {
-        Plan::Known
-    } else {
-        Plan::Whole
+        return Plan::Known;
     }
+    images.late.note_all();
+    Plan::Whole
 }
 
-/// Where that is not seen at once, the scan being quiet: whether it ended direct, with the number of its own worker, and all touched
-/// words are listed. What the scan found anew is listed as late then, and the row that it remembers under that number is the worker's row.
+/// Where that is not seen at once, the scan being quiet: whether it ended direct, with the number of its own worker, and all
+/// touched words are listed. What the scan found anew is listed as late then, and the row that it remembers under that number
+/// is the worker's row.
 #[inline(never)]
 fn follow<const N: usize, const C: usize, const H: usize, const G: usize>(
     seat: &WorkSeat,

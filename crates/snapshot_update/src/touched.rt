@@ -3,7 +3,9 @@ ghost use Rattle.std.specs.Prelude.{◌≡◌, ◌≢◌, ◌+◌, ◌*◌, ◌<
 ghost use Rattle.ledger_core.specs.Ops.{width, only, part, sum_ops, IsWithin};
 ghost use Rattle.ledger_core.specs.Limits.{AreSlots};
 ghost use Rattle.snapshot_update.specs.Fit.{AreInside};
-ghost use Rattle.snapshot_update.specs.Noting.{Touches, AreTouched, IsRun};
+ghost use Rattle.snapshot_update.specs.Noting.{Touches, AreTouched, IsRun, words_of};
+ghost use Rattle.snapshot_update.specs.OpWords.{IsOnly};
+ghost use Rattle.ledger_core.specs.declared.op.Op.{Op as OpView};
 
 use crate::run::Run;
 use ledger_core::Op;
@@ -11,13 +13,13 @@ use snapshot_scan::ChangedItems;
 use std::mem::swap;
 
 /// How many words a histogram has.
-const HIST: usize = 27;
+pub(crate) const HIST: usize = 27;
 
 /// The sum of a histogram comes after its 25 buckets.
-const SUM: usize = 25;
+pub(crate) const SUM: usize = 25;
 
 /// The count of a histogram is its last word.
-const COUNT: usize = 26;
+pub(crate) const COUNT: usize = 26;
 
 /// Lists the words of a row that these operations add to, and no items that are not words of the row. The words of a histogram
 /// that is observed many times one after the other are listed once. A list has room for 256 items, and an operation touches three words
@@ -38,25 +40,27 @@ fn touch_all<const C: usize, const H: usize, const G: usize>(ops: &[Op], touched
 }
 
 /// As [`touch_all`]. Where it says yes, the list is as it was, and the operations add to the words that it has. `spare` is room for a list, of
-/// which nothing is known.
+/// which nothing is known. `only` is the operation of a list of one.
 #[inline(always)]
 pub(crate) fn touch<const C: usize, const H: usize, const G: usize>(
     ops: &[Op],
+    only: Option<Op>,
     touched: &mut ChangedItems,
     spare: &mut ChangedItems,
 ) -> bool
     requires within { All (IsWithin C H G) ops.now }
     requires slots { AreSlots C H G }
+    requires only { IsOnly ops.now only }
     ensures rises { touched.new.all ≡ false → (k : ℕ) → ¬ (Contains touched.new.items k) → sum_ops C H ops.now k ≡ 0 }
     ensures inside { AreInside (width C H G) touched.new }
     ensures few { length ops.now ≤ 85 → touched.new.all ≡ false }
     ensures again { result ≡ true → touched.new ≡ touched.old }
+    ensures one { result ≡ true → (op : OpView) → ops.now ≡ op ∷ [] → touched.new.items ≡ words_of C H op }
 {
-    if ops.len() != 1 {
+    let Some(op) = only else {
         return touch_list::<C, H, G>(ops, touched, spare);
-    }
-    let again = is_again::<C, H, G>(ops, touched);
-    if again {
+    };
+    if is_again::<C, H, G>(&op, touched) {
         return true;
     }
     touch_all::<C, H, G>(ops, touched);
@@ -90,21 +94,18 @@ fn touch_list<const C: usize, const H: usize, const G: usize>(
     false
 }
 
-/// Whether just the words that one operation adds to are listed.
+/// Whether just the words that this operation adds to are listed.
 #[inline(always)]
-fn is_again<const C: usize, const H: usize, const G: usize>(
-    ops: &[Op],
-    touched: &ChangedItems,
-) -> bool
-    requires one { length ops.now ≡ 1 }
-    requires within { All (IsWithin C H G) ops.now }
+fn is_again<const C: usize, const H: usize, const G: usize>(op: &Op, touched: &ChangedItems) -> bool
+    requires within { IsWithin C H G op.now }
     requires slots { AreSlots C H G }
-    ensures { result ≡ true → AreTouched C H (width C H G) ops.now touched.now }
+    ensures touched { result ≡ true → AreTouched C H (width C H G) (op.now ∷ []) touched.now }
+    ensures words { result ≡ true → touched.now.items ≡ words_of C H op.now }
 {
     if touched.is_all() {
         return false;
     }
-    is_one::<C, H, G>(&ops[0], touched.as_slice())
+    is_one::<C, H, G>(op, touched.as_slice())
 }
 
 /// Whether each operation adds to one word, and these are the words, place by place.
@@ -147,6 +148,7 @@ fn is_single<const C: usize, const H: usize, const G: usize>(op: &Op, word: usiz
 fn is_one<const C: usize, const H: usize, const G: usize>(op: &Op, words: &[usize]) -> bool
     requires within { IsWithin C H G op.now }
     requires slots { AreSlots C H G }
+    ensures words { result ≡ true → words.now ≡ words_of C H op.now }
     ensures rises { result ≡ true → (k : ℕ) → ¬ (Contains words.now k) → part C H op.now k ≡ 0 }
     ensures inside { result ≡ true → (j : ℕ) → Contains words.now j → j < width C H G }
 {

@@ -13,7 +13,7 @@ use Rattle.snapshot_update.proofs.fills.fill_again.Goals as goal
 pub returns-clause-hidden : goal.returns-clause-hidden
 returns-clause-hidden g c =
     let n : ℕ = g.row.N in let w : ℕ = width g.row.C g.row.H g.row.G in let b : ℕ = depth n w in
-    let v = c.args.version.now in let target = target_of v in let touched = c.args.touched.now.items in
+    let v = c.args.version.now in let target = target_of v in let touched = c.args.words.now in
     let i : ℕ = c.worker-worker.result in
     let own = c.worker-worker.ensures.index in let place = c.item_at-number_item.ensures.place in
     let lens = c.requires.lengths in

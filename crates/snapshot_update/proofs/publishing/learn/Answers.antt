@@ -1,5 +1,5 @@
 use Rattle.std.proofs.Common.{ℕ, List, Contains, sym, ◌∙◌, subst, rules}
-use Rattle.snapshot_update.proofs.update.learn.Goals as goal
+use Rattle.snapshot_update.proofs.publishing.learn.Goals as goal
 
 pub remember_at-requires : goal.remember_at-requires
 remember_at-requires g c = let same = c.as_slice.ensures.listed in (
