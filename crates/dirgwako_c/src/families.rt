@@ -68,7 +68,8 @@ fn family_in<const N: usize, const C: usize, const H: usize, const G: usize>(
     family: &mut Family,
 ) -> u32
     ensures { MakesFamilyBy result registrar.old.at registrar.new.at family.old family.new group (λ family. family.id)
-        (λ family. family.registry) name.now help.now (texts_of labels.now) (said_of asked.entry name.now help.now labels.now digits) }
+        (λ family. family.registry) name.now help.now (texts_of labels.now)
+        (said_of asked.entry name.now help.now labels.now digits) }
 {
     let (Some(name), Some(help)) = (text(name), text(help)) else {
         return 36;

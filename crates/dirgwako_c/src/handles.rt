@@ -1,4 +1,5 @@
-//! The handles that C holds: two words each, zeros where it holds nothing. C takes no struct with type parameters, so each is one of its own.
+//! The handles that C holds: two words each, zeros where it holds nothing. C takes no struct with type parameters, so each is
+//! one of its own.
 ghost use Rattle.std.specs.Prelude.{◌≡◌, ◌≢◌, IsNone, IsSome, MatchOption, Some};
 ghost use Rattle.std.specs.declared.option.Option.{Option};
 ghost use Rattle.std.specs.Coded.{coded_option};

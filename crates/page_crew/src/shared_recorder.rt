@@ -155,8 +155,10 @@ impl<const N: usize, const C: usize, const H: usize, const G: usize> SharedRecor
     pub(crate) fn count(&mut self, what: Count) -> Result<(), CountFault>
         ensures board { board_in self.new ≡ board_in self.old }
         ensures index { index_of (worker_in self.new) ≡ index_of (worker_in self.old) }
-        ensures counted { OnOk result (IsCounted (id_in self.old) (registry_of what.entry) (op_of what.entry) (worker_in self.old) (worker_in self.new)) }
-        ensures fault { IfErr result (IsCountFault C H G (id_in self.old) (registry_of what.entry) (op_of what.entry) (member_of (worker_in self.old))) }
+        ensures counted { OnOk result (IsCounted (id_in self.old) (registry_of what.entry) (op_of what.entry) (worker_in self.old)
+            (worker_in self.new)) }
+        ensures fault { IfErr result (IsCountFault C H G (id_in self.old) (registry_of what.entry) (op_of what.entry)
+            (member_of (worker_in self.old))) }
         ensures unchanged { OnErr result (member_of (worker_in self.new) ≡ member_of (worker_in self.old)) }
     {
         match what {
