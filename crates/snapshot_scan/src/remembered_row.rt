@@ -163,7 +163,7 @@ impl RememberedRow {
     }
 
     /// Remembers this row under this number, where it differs from the remembered one at these words alone.
-    #[inline]
+    #[inline(always)]
     pub fn change<const C: usize, const H: usize, const G: usize>(
         &mut self,
         number: u64,
@@ -203,7 +203,7 @@ pub(crate) fn copy_words<const C: usize, const H: usize, const G: usize>(
 }
 
 /// Makes the words of the old row at these items those of the new one, also in the totals.
-#[inline]
+#[inline(always)]
 fn change_words<const C: usize, const H: usize, const G: usize>(
     totals: &mut [u64],
     old: &mut [u64],
@@ -227,7 +227,7 @@ fn change_words<const C: usize, const H: usize, const G: usize>(
 }
 
 /// Makes one word of the old row another, also in the totals.
-#[inline]
+#[inline(always)]
 fn change_word(totals: &mut [u64], old: &mut [u64], item: usize, word: u64)
     requires inside { (item < length totals.old) × (item < length old.old) }
     requires part { slice_index old.old item ≤ slice_index totals.old item }

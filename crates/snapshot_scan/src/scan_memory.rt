@@ -169,7 +169,7 @@ impl<const N: usize, const C: usize, const H: usize, const G: usize> ScanMemory<
 
     /// Remembers that the row of this segment is now `row`, under this number, where it differs from the remembered one at
     /// these words alone.
-    #[inline]
+    #[inline(always)]
     pub fn remember_at(&mut self, place: usize, number: u64, row: &Row<C, H, G>, items: &[usize])
         requires inside { place < N }
         requires words { (j : ℕ) → Contains items.now j → j < width C H G }
