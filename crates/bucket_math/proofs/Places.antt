@@ -96,7 +96,7 @@ place_is bounds value k rising within below next =
     at_least zero le lower = omega arith
     at_least (suc n) le lower = ⊎_elim
         (λ lt. let high = at_most-bound bounds value n rising (omega (arith, le)) (let h : place_of bounds value ≤ n = omega
-            (arith, lt) in h) in
+        (arith, lt) in h) in
         let low = lower n (omega arith) in absurd (omega (arith, high, low)))
         (λ ge. ge)
         (cases_lt (place_of bounds value) (suc n))

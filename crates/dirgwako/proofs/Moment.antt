@@ -19,7 +19,8 @@ module _ {N C H G : ℕ} (quit : Scanner N C H G → ℕ) (gave : Scanner N C H 
     (gave_up : Scanner N C H G → Scanner N C H G → Contended → Type 0) where
   pub last_text_of : (old new : RegistryView (Scanner N C H G)) (scrape : Scraped) (bytes : List ℕ)
       → ShowsScrape N C H G recorded_in quit gave gave_up old new scrape
-      → IsKept N C H G (recorded_in new.source) new.journal new.window new.state → bytes ≡ shown_text scrape → IsLastText bytes new
+      → IsKept N C H G (recorded_in new.source) new.journal new.window new.state → bytes ≡ shown_text scrape → IsLastText bytes
+      new
   last_text_of old new scrape bytes shows kept is = record {
     kept = kept;
     answer = shows.kept.answer;

@@ -25,11 +25,13 @@ module _ {N C H G : ℕ} where
   readers_of c = c.readers.items
 
   -- what an open crew hands out beside the registry: its recorders, in order
-  abbrev pub recorders_in : {R : Type 0} → R × Vec (Recorder N C H G) Global × Vec (Scanner N C H G) Global → List (Recorder N C H G)
+  abbrev pub recorders_in : {R : Type 0} → R × Vec (Recorder N C H G) Global × Vec (Scanner N C H G) Global → List (Recorder N C H
+      G)
   recorders_in o = o.1.items
 
   -- and its scanners
-  abbrev pub scanners_in : {R : Type 0} → R × Vec (Recorder N C H G) Global × Vec (Scanner N C H G) Global → List (Scanner N C H G)
+  abbrev pub scanners_in : {R : Type 0} → R × Vec (Recorder N C H G) Global × Vec (Scanner N C H G) Global → List (Scanner N C H
+      G)
   scanners_in o = o.2.items
 
   -- why a crew is not opened

@@ -28,7 +28,8 @@ module _ {N C H G : ℕ} (old new : OnPage N C H G) where
     abbrev pub RegistersFamily : Result FamilyId RegisterFault → Type 0
     RegistersFamily (Ok family) = (new.group ≡ old.group) × (family.number ≡ length (page_of old.crew).families)
         × AreApart (page_of old.crew).families desc × (length (page_of old.crew).families < 128)
-        × PageDid old.crew new.crew (λ a b. (home : ℕ) × IsHome C H G a desc.kind old.group home × AddsFamily a b desc old.group home)
+        × PageDid old.crew new.crew (λ a b. (home : ℕ) × IsHome C H G a desc.kind old.group home × AddsFamily a b desc old.group
+        home)
         × HasToldFamily old.crew new.crew desc old.group
     RegistersFamily (Err why) = (new.group ≡ old.group) × IsUnchanged old.crew new.crew × (news_of new.crew ≡ news_of old.crew)
         × ((fault : PageFamilyFault) × (why ≡ as_register_fault fault) × IsPageFamilyFault (page_of old.crew).families desc fault)
@@ -38,9 +39,11 @@ module _ {N C H G : ℕ} (old new : OnPage N C H G) where
       pub did : RegistersFamily answer
 
   module _ (family : FamilyId) (values : List (List ℕ)) where
-    -- one that was there or is made, on a board that came for it where it had to, and what scrapers were told of; or why there is none
+    -- one that was there or is made, on a board that came for it where it had to, and what scrapers were told of; or why there is
+    -- none
     abbrev pub GivesChild : Result Handle PageChildFault → Type 0
-    GivesChild (Ok handle) = (new.group ≡ old.group) × IsGivenByCrew old.crew new.crew family.number values handle × IsInside C H G handle
+    GivesChild (Ok handle) = (new.group ≡ old.group) × IsGivenByCrew old.crew new.crew family.number values handle × IsInside C H
+        G handle
         × HasToldGiven old.crew new.crew family.number values handle
     GivesChild (Err why) = (new.group ≡ old.group) × IsRefusedByCrew old.crew new.crew family.number values why
         × HasToldRefused old.crew new.crew family.number

@@ -44,7 +44,8 @@ pub record ShowsText (shows : Scraped → Type 0) (bytes : List ℕ) : Type 0 wh
   pub shown : shows scrape
   pub text_is : bytes ≡ shown_text scrape
 
--- why there is no last text: what comes back was asked four times, and gave each scan up; that there was no memory no clause can say
+-- why there is no last text: what comes back was asked four times, and gave each scan up; that there was no memory no clause can
+-- say
 abbrev pub IsLastFault : {N C H G : ℕ} → TextFault → RegistryView (Scanner N C H G) → Type 0
 IsLastFault {N} {C} {H} {G} Contended registry = (before : RegistryView (Scanner N C H G))
     × AsksAgain (Scrapes N C H G recorded_in quit_in gave_in gave_up_in) 3 before registry (Err none.Contended)

@@ -73,7 +73,8 @@ IsOther Kinds.Histogram (Handle.Histogram _) = ⊥
 IsOther Kinds.Gauge (Handle.Gauge _) = ⊥
 IsOther kind handle = Unit {0}
 
-module _ {S : Type 0} (id_in : S → ℕ) (gave : S → S → FamilyId → List (List ℕ) → Result Handle PageChildFault → Type 0) (old new : S)
+module _ {S : Type 0} (id_in : S → ℕ) (gave : S → S → FamilyId → List (List ℕ) → Result Handle PageChildFault → Type 0) (old new :
+    S)
     (registry : ℕ) (id : FamilyId) (values : List (List ℕ)) where
   -- What is done and answered where a child is asked for: it is asked for once, with just these values; or the family
   -- is of a registry of another id, or else some value is none, and nothing is done.

@@ -114,7 +114,8 @@ pub(crate) fn ask_family<S: Registers>(
         (shifted_family_of (kind_of shape.entry) name.now help.now labels.now (bounds_of shape.entry) digits) (Result.Ok id)) }
     ensures few { IfOk result (λ _. digits ≤ 9) }
     ensures fault { IfErr result (λ refused. AsksFamily S.registered at.old at.new
-        (shifted_family_of (kind_of shape.entry) name.now help.now labels.now (bounds_of shape.entry) digits) (Result.Err refused.fault)) }
+        (shifted_family_of (kind_of shape.entry) name.now help.now labels.now (bounds_of shape.entry) digits) (Result.Err
+        refused.fault)) }
     ensures named { IfErr result (λ refused. TellsName name.now refused.name.bytes) }
 {
     match describe_shifted(alloc, shape, name, help, labels, digits) {

@@ -32,8 +32,8 @@ impl<X: MakesScrapes> ScrapeFrom for Owned<X> {
     }
 }
 
-/// The text of a scrape of a registry that nobody shares, and the registry after it ([`RegistryState`], as it is behind a lock; or what else
-/// makes scrapes). A scrape that was given up is asked for up to [`MakesScrapes::again`] times more.
+/// The text of a scrape of a registry that nobody shares, and the registry after it ([`RegistryState`], as it is behind a lock;
+/// or what else makes scrapes). A scrape that was given up is asked for up to [`MakesScrapes::again`] times more.
 ///
 /// # Errors
 ///
@@ -51,13 +51,13 @@ pub fn text_of<X: MakesScrapes + Drop>(state: X) -> Result<(Vec<u8>, X), (TextFa
     }
 }
 
-/// [`text_of`] a registry that no thread shares any more: the text of a last scrape, and what stood behind the lock, its journal, the
-/// scrapes that it keeps, and its families. What stood there before the last scrape no clause says.
+/// [`text_of`] a registry that no thread shares any more: the text of a last scrape, and what stood behind the lock, its journal,
+/// the scrapes that it keeps, and its families. What stood there before the last scrape no clause says.
 ///
 /// # Errors
 ///
-/// 6 [`TextFault::NoMemory`]; 14 [`TextFault::Contended`], while recorders still count. What stood behind the lock comes with either, to be
-/// asked again by [`text_of`].
+/// 6 [`TextFault::NoMemory`]; 14 [`TextFault::Contended`], while recorders still count. What stood behind the lock comes with
+/// either, to be asked again by [`text_of`].
 pub fn last_text<'a, const N: usize, const C: usize, const H: usize, const G: usize>(
     registry: Registry<'a, N, C, H, G>,
 ) -> Result<
@@ -97,8 +97,8 @@ pub fn print_last<R: Print, const N: usize, const C: usize, const H: usize, cons
     print_of(rt, registry.into_state())
 }
 
-/// Prints [`text_of`] a registry or a page that nobody shares on standard output, as a service does at its end: that of a page behind its lock is
-/// `registry.into_crew()`.
+/// Prints [`text_of`] a registry or a page that nobody shares on standard output, as a service does at its end: that of a page
+/// behind its lock is `registry.into_crew()`.
 ///
 /// # Errors
 ///

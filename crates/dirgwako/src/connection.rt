@@ -26,7 +26,8 @@ fn reply<I: Read, O: Write, S: ScrapeFrom>(
     requires writer_going { writer.old.failed ≡ false }
     ensures answers { Answers S.gave S.again source.old.source source.new.source result }
     ensures whole { IfSome result
-        (λ served. IsServed (λ before after answer. AsksAgain S.gave S.again before.source after.source answer) source.old source.new
+        (λ served. IsServed (λ before after answer. AsksAgain S.gave S.again before.source after.source answer) source.old
+        source.new
         (I.remaining reader.old.inner) (I.remaining reader.new.inner)
         (O.contents writer.old.inner) (O.contents writer.new.inner) reader.new.ended reader.new.latest (Ok served)) }
     ensures flushed { IsSome result → writer.new.flushed ≡ true }
@@ -44,8 +45,8 @@ fn reply<I: Read, O: Write, S: ScrapeFrom>(
     }
 }
 
-/// Answers one connection, and tells the reply, or None where there was none. It may take as long as `patience`, of which what is left, a second
-/// at most, is for its end behind the reply.
+/// Answers one connection, and tells the reply, or None where there was none. It may take as long as `patience`, of which what is
+/// left, a second at most, is for its end behind the reply.
 pub(crate) fn answer<R: Clock, S: ScrapeFrom>(
     clock: &R,
     stream: &TcpStream,

@@ -49,13 +49,13 @@ impl<const N: usize, const C: usize, const H: usize, const G: usize> Crew<N, C, 
     ghost use Rattle.dirgwako.specs.Opening.{IsTaken, IsKept, IsNewOn};
     ghost use Rattle.dirgwako.specs.Recorders.{worker_in, IsOn};
 
-    /// A new board of this id, on which nothing was counted, with its `N` workers and `readers` readers. All memory that counting and
-    /// scanning need is taken here. Boards of one program have different ids: by them a handle of another board is told.
+    /// A new board of this id, on which nothing was counted, with its `N` workers and `readers` readers. All memory that counting
+    /// and scanning need is taken here. Boards of one program have different ids: by them a handle of another board is told.
     ///
     /// # Errors
     ///
-    /// 13 [`BoardFault::Geometry`], unless `N` is 1 to 32, `C` at most 256, `H` at most 32, `G` at most 64 and `readers` 1 to 4; then 6
-    /// [`BoardFault::NoMemory`].
+    /// 13 [`BoardFault::Geometry`], unless `N` is 1 to 32, `C` at most 256, `H` at most 32, `G` at most 64 and `readers` 1 to 4;
+    /// then 6 [`BoardFault::NoMemory`].
     pub fn new(alloc: Global, id: u64, readers: usize) -> Result<Crew<N, C, H, G>, BoardFault>
         ensures id { IfOk result (λ c. board_id (board_of c) ≡ id) }
         ensures geometry { IfOk result (λ _. IsBoardSize N C H G readers) }
@@ -97,8 +97,9 @@ impl<const N: usize, const C: usize, const H: usize, const G: usize> Crew<N, C, 
         })
     }
 
-    /// [`Crew::open`] with the registry as it is behind the lock: for a thread that shares it with nobody, so that the clauses of its calls
-    /// ([`RegistryState`]) say all that they do; and for one that registers before it shares ([`metric_registry::RegistryOf::lock`]).
+    /// [`Crew::open`] with the registry as it is behind the lock: for a thread that shares it with nobody, so that the clauses of
+    /// its calls ([`RegistryState`]) say all that they do; and for one that registers before it shares
+    /// ([`metric_registry::RegistryOf::lock`]).
     ///
     /// # Errors
     ///
@@ -128,14 +129,14 @@ impl<const N: usize, const C: usize, const H: usize, const G: usize> Crew<N, C, 
         }
     }
 
-    /// Hands all out: `let (registry, mut recorders, scanners) = crew.open(64)?`. The registry keeps `window` scrapes, and scrapes by the
-    /// last reader. There is a recorder for each of the `N` workers, in order, one for each thread that counts, and a scanner for each
-    /// other reader, in order, which scans the board for itself.
+    /// Hands all out: `let (registry, mut recorders, scanners) = crew.open(64)?`. The registry keeps `window` scrapes, and
+    /// scrapes by the last reader. There is a recorder for each of the `N` workers, in order, one for each thread that counts,
+    /// and a scanner for each other reader, in order, which scans the board for itself.
     ///
     /// # Errors
     ///
-    /// 32 [`OpenFault::Opened`]; then [`OpenFault::Registry`]: 31 unless `window` is 1 to 1,024, after which the crew may be opened still,
-    /// and 6, after which it is spent.
+    /// 32 [`OpenFault::Opened`]; then [`OpenFault::Registry`]: 31 unless `window` is 1 to 1,024, after which the crew may be
+    /// opened still, and 6, after which it is spent.
     pub fn open<'a>(
         &'a mut self,
         window: usize,

@@ -26,9 +26,10 @@ fn drain<R: Clock>(mut rest: Timed<'_, R>) {
     }
 }
 
-/// Ends a connection behind a reply of this status. The request of a scrape was read whole: where nothing waits behind it, the socket may be closed.
-/// Else the client is told that no more is sent, and what it still sends is read, at most 262,144 bytes, for what is left of the connection's time, a
-/// second at most: a socket that is closed while input waits resets the connection, and then the client may lose its reply.
+/// Ends a connection behind a reply of this status. The request of a scrape was read whole: where nothing waits behind it, the
+/// socket may be closed. Else the client is told that no more is sent, and what it still sends is read, at most 262,144 bytes,
+/// for what is left of the connection's time, a second at most: a socket that is closed while input waits resets the connection,
+/// and then the client may lose its reply.
 ///
 /// Source: RFC 9112, section 9.6.
 pub(crate) fn end<R: Clock>(at: Timed<'_, R>, status: Status) -> Result<()> {

@@ -17,7 +17,8 @@ pub struct CounterFamily {
 }
 
 impl CounterFamily {
-    /// The family of this number of the registry of this id, for one who knows both. Refusals tell it by this name, if it has at most 128 bytes.
+    /// The family of this number of the registry of this id, for one who knows both. Refusals tell it by this name, if it has at
+    /// most 128 bytes.
     pub fn of(registry: u64, id: FamilyId, name: &str) -> CounterFamily
         ensures registry { result.registry ≡ registry }
         ensures id { result.id ≡ id }
@@ -40,7 +41,8 @@ pub struct GaugeFamily {
 }
 
 impl GaugeFamily {
-    /// The family of this number of the registry of this id, for one who knows both. Refusals tell it by this name, if it has at most 128 bytes.
+    /// The family of this number of the registry of this id, for one who knows both. Refusals tell it by this name, if it has at
+    /// most 128 bytes.
     pub fn of(registry: u64, id: FamilyId, name: &str) -> GaugeFamily
         ensures registry { result.registry ≡ registry }
         ensures id { result.id ≡ id }
@@ -63,7 +65,8 @@ pub struct HistogramFamily {
 }
 
 impl HistogramFamily {
-    /// The family of this number of the registry of this id, for one who knows both. Refusals tell it by this name, if it has at most 128 bytes.
+    /// The family of this number of the registry of this id, for one who knows both. Refusals tell it by this name, if it has at
+    /// most 128 bytes.
     pub fn of(registry: u64, id: FamilyId, name: &str) -> HistogramFamily
         ensures registry { result.registry ≡ registry }
         ensures id { result.id ≡ id }

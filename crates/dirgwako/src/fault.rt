@@ -51,8 +51,8 @@ impl FamilyRefusal {
     }
 }
 
-/// Why there is no handle of a family for some label values. Nothing has changed then, but that after 28 the child is in the other family,
-/// and that after 6 a page may have a board more.
+/// Why there is no handle of a family for some label values. Nothing has changed then, but that after 28 the child is in the
+/// other family, and that after 6 a page may have a board more.
 #[derive(Clone, Copy, Debug, PartialEq, Eq, Error)]
 pub enum ChildRefusal {
     /// Refusal 20: the family is of a registry of another id.
@@ -64,8 +64,8 @@ pub enum ChildRefusal {
     /// Refusals 20, 21, 22 and 6 of the registry, and 46 of a page.
     #[error("{}: {}", .0.number(), .0)]
     Child(PageChildFault),
-    /// Refusal 28: the registry's family of this number is of another kind. So a family is told that is of another registry of the same
-    /// id, where the kinds differ.
+    /// Refusal 28: the registry's family of this number is of another kind. So a family is told that is of another registry of
+    /// the same id, where the kinds differ.
     #[error("28: the family is of another kind")]
     OtherKind,
 }

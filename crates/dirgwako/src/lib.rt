@@ -1,5 +1,5 @@
-//! All that the author of a service needs, in one library: a crew for a board, recorders that threads count with, a registry whose metrics
-//! are registered by plain texts, bounds by rule, and a server of scrapes.
+//! All that the author of a service needs, in one library: a crew for a board, recorders that threads count with, a registry
+//! whose metrics are registered by plain texts, bounds by rule, and a server of scrapes.
 #![tactic(auto)]
 
 mod asking;

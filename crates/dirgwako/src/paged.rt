@@ -10,7 +10,8 @@ use registry_state::{FamilyId, Handle, RegisterFault};
 use scrape_page::{PageChildFault, PageFamilyFault, PageFamilyId};
 use std::sync::Wait;
 
-/// A page that is nobody else's, and the group in which families are registered from now on. Metrics that shall agree go into one group.
+/// A page that is nobody else's, and the group in which families are registered from now on. Metrics that shall agree go into one
+/// group.
 #[derive(Drop)]
 pub struct OnPage<const N: usize, const C: usize, const H: usize, const G: usize> {
     /// The page.
@@ -58,8 +59,8 @@ impl<const N: usize, const C: usize, const H: usize, const G: usize> Registers
     }
 }
 
-/// A page behind its lock, the runtime that waits for it, and the group in which families are registered from now on. Metrics that shall agree
-/// go into one group.
+/// A page behind its lock, the runtime that waits for it, and the group in which families are registered from now on. Metrics
+/// that shall agree go into one group.
 #[derive(Drop)]
 pub struct BehindPage<'a, R: Wait, const N: usize, const C: usize, const H: usize, const G: usize> {
     /// The runtime.
@@ -80,7 +81,8 @@ impl<R: Wait, const N: usize, const C: usize, const H: usize, const G: usize> Re
 
     ghost registered = { λ before after desc answer. (after ≡ before) × IfOk answer (λ family. family.number < 128) };
 
-    ghost gave = { λ before after family values answer. (after ≡ before) × IfOk answer (λ handle. IsOfPage (id_of before.registry.now) handle × IsInside C H G handle) };
+    ghost gave = { λ before after family values answer. (after ≡ before) × IfOk answer (λ handle. IsOfPage (id_of
+        before.registry.now) handle × IsInside C H G handle) };
 
     /// The id of the page's first board, which its families have.
     fn id(&self) -> u64 {

@@ -71,8 +71,9 @@ pub(crate) fn text_from<S: ScrapeFrom>(source: &mut S) -> Result<Vec<u8>, TextFa
     }
 }
 
-/// Scrapes what is shared, a registry or a page behind its lock, and gives the text of the scrape, in the text exposition format 0.0.4: [`render`].
-/// A scrape of a registry that was given up is asked for up to three times more; a page asks each board again by itself.
+/// Scrapes what is shared, a registry or a page behind its lock, and gives the text of the scrape, in the text exposition format
+/// 0.0.4: [`render`]. A scrape of a registry that was given up is asked for up to three times more; a page asks each board again
+/// by itself.
 ///
 /// # Errors
 ///

@@ -14,9 +14,9 @@ use register_rule::Board;
 use snapshot_update::{CountFault, Worker};
 use std::alloc::{AllocError, Global};
 
-/// What a thread counts with: a worker of a board, and that board. It may move to a thread of its own. Its calls take no lock and no
-/// memory, and wait for nobody: their steps are bounded whatever others do. Where a scrape has failed to read once, a call that publishes may
-/// rest first, some tens of microseconds at most ([`Board::rest_if_hushed`]).
+/// What a thread counts with: a worker of a board, and that board. It may move to a thread of its own. Its calls take no lock and
+/// no memory, and wait for nobody: their steps are bounded whatever others do. Where a scrape has failed to read once, a call
+/// that publishes may rest first, some tens of microseconds at most ([`Board::rest_if_hushed`]).
 pub struct Recorder<'a, const N: usize, const C: usize, const H: usize, const G: usize> {
     board: &'a Board<N, C, H, G>,
     worker: Worker<N, C, H, G>,
@@ -58,8 +58,8 @@ impl<'a, const N: usize, const C: usize, const H: usize, const G: usize> Recorde
         worker
     }
 
-    /// Its board and its worker: a service that has all workers of a board back may [`settle`](metric_registry::settle_state) with its
-    /// registry, and workers may meet ([`Worker::meet`]).
+    /// Its board and its worker: a service that has all workers of a board back may [`settle`](metric_registry::settle_state)
+    /// with its registry, and workers may meet ([`Worker::meet`]).
     pub fn into_parts(self) -> (&'a Board<N, C, H, G>, Worker<N, C, H, G>)
         ensures board { result.0.now ≡ board_in self.entry }
         ensures worker { result.1 ≡ worker_in self.entry }
@@ -73,8 +73,9 @@ impl<'a, const N: usize, const C: usize, const H: usize, const G: usize> Recorde
     ///
     /// # Errors
     ///
-    /// 16 [`CountFault::WrongRegistry`], the counter's id is not the board's; then [`CountFault::Apply`]: 15, the worker has published
-    /// 2^64 - 1 times; 11, the slot is none of the board's; 12, the number would pass 2^48 - 1. Nothing has changed then.
+    /// 16 [`CountFault::WrongRegistry`], the counter's id is not the board's; then [`CountFault::Apply`]: 15, the worker has
+    /// published 2^64 - 1 times; 11, the slot is none of the board's; 12, the number would pass 2^48 - 1. Nothing has changed
+    /// then.
     pub fn inc(&mut self, counter: &Counter, by: u64) -> Result<(), CountFault>
         ensures board { board_in self.new ≡ board_in self.old }
         ensures index { index_of (worker_in self.new) ≡ index_of (worker_in self.old) }
@@ -161,8 +162,8 @@ impl<'a, const N: usize, const C: usize, const H: usize, const G: usize> Recorde
     ///
     /// # Errors
     ///
-    /// 16 [`CountFault::WrongRegistry`], the id of one of them is not the board's; then [`CountFault::Apply`]: 15, or 11 or 12 of the
-    /// first change that fails, with its place. Nothing has changed then.
+    /// 16 [`CountFault::WrongRegistry`], the id of one of them is not the board's; then [`CountFault::Apply`]: 15, or 11 or 12 of
+    /// the first change that fails, with its place. Nothing has changed then.
     #[inline(always)]
     pub fn publish<const K: usize>(&mut self, changes: &[Change; K]) -> Result<(), CountFault>
         ensures board { board_in self.new ≡ board_in self.old }
@@ -188,12 +189,13 @@ impl<'a, const N: usize, const C: usize, const H: usize, const G: usize> Recorde
         Tally::new(self.board.id())
     }
 
-    /// Publishes what a tally has counted as one version, all of it or nothing: no scrape sees some of it alone. The tally is empty then.
+    /// Publishes what a tally has counted as one version, all of it or nothing: no scrape sees some of it alone. The tally is
+    /// empty then.
     ///
     /// # Errors
     ///
-    /// 16 [`CountFault::WrongRegistry`], the tally is of another registry; then [`CountFault::Apply`]: 15, the worker has published
-    /// 2^64 - 1 times; 12, a number would pass 2^48 - 1. Nothing has changed then, and the tally has what it had.
+    /// 16 [`CountFault::WrongRegistry`], the tally is of another registry; then [`CountFault::Apply`]: 15, the worker has
+    /// published 2^64 - 1 times; 12, a number would pass 2^48 - 1. Nothing has changed then, and the tally has what it had.
     pub fn flush<const K: usize>(&mut self, tally: &mut Tally<C, H, G, K>) -> Result<(), CountFault>
         ensures board { board_in self.new ≡ board_in self.old }
         ensures index { index_of (worker_in self.new) ≡ index_of (worker_in self.old) }

@@ -22,7 +22,8 @@ pub(crate) fn name_of(name: &str) -> Name
     }
 }
 
-/// Why a family, a child or a metric is refused, and the family's name: `22: all 8 Counter slots of each board are used (answers_total)`.
+/// Why a family, a child or a metric is refused, and the family's name: `22: all 8 Counter slots of each board are used
+/// (answers_total)`.
 #[derive(Clone, Copy, Debug, PartialEq, Eq, Error)]
 #[error("{fault} ({name})")]
 pub struct Refused<F: Display + Drop> {

@@ -18,8 +18,8 @@ use scrape_page::PageChildFault;
 use snapshot_scan::Source;
 use std::sync::Wait;
 
-/// What registers families and gives their children. Each names, for contracts alone, its id (`id_in`) and what one such call does to it
-/// (`registered`, `gave`), so that a contract tells which calls were made, with what, and in which order.
+/// What registers families and gives their children. Each names, for contracts alone, its id (`id_in`) and what one such call
+/// does to it (`registered`, `gave`), so that a contract tells which calls were made, with what, and in which order.
 pub trait Registers {
     // The id that its handles have.
     ghost id_in: { Self → ℕ };
@@ -27,7 +27,8 @@ pub trait Registers {
     // What one registration says of what was there before it, what is there after it, the descriptor, and the answer.
     ghost registered: { Self → Self → Descriptor → Result FamilyId RegisterFault → Type 0 };
 
-    // What asking for one child says of what was there before it, what is there after it, the family, the label values, and the answer.
+    // What asking for one child says of what was there before it, what is there after it, the family, the label values, and the
+    // answer.
     ghost gave: { Self → Self → FamilyId → List (List ℕ) → Result Handle PageChildFault → Type 0 };
 
     /// The id that its handles have.

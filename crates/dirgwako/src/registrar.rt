@@ -22,8 +22,8 @@ use std::sync::Wait;
 /// Registers metrics by plain texts. [`Registrar::new`] makes one of a registry, [`Registrar::page`] and
 /// [`Registrar::shared_page`] one of a page.
 ///
-/// All numbers are whole. A name tells their unit, `job_bytes`, or the unit in which a text shows them, shifted: counted in microseconds
-/// and shown in seconds, `answer_seconds` ([`Registrar::histogram_seconds`]).
+/// All numbers are whole. A name tells their unit, `job_bytes`, or the unit in which a text shows them, shifted: counted in
+/// microseconds and shown in seconds, `answer_seconds` ([`Registrar::histogram_seconds`]).
 #[derive(Drop)]
 pub struct Registrar<S> {
     /// What registers them.
@@ -55,8 +55,8 @@ impl<
 }
 
 impl<const N: usize, const C: usize, const H: usize, const G: usize> Registrar<OnPage<N, C, H, G>> {
-    /// That of a page, whose families go into the group 0. `registrar.at.group` is the group of the families to come, and may be changed at
-    /// any time.
+    /// That of a page, whose families go into the group 0. `registrar.at.group` is the group of the families to come, and may be
+    /// changed at any time.
     pub fn page(alloc: Global, crew: PageCrew<N, C, H, G>) -> Registrar<OnPage<N, C, H, G>>
         ensures { result.at ≡ record { crew = crew.entry; group = 0 } }
     {
@@ -75,8 +75,8 @@ impl<
     const H: usize,
     const G: usize,
 > Registrar<BehindPage<'a, R, N, C, H, G>> {
-    /// That of a page behind its lock, whose families go into the group 0. `registrar.at.group` is the group of the families to come, and may be
-    /// changed at any time.
+    /// That of a page behind its lock, whose families go into the group 0. `registrar.at.group` is the group of the families to
+    /// come, and may be changed at any time.
     pub fn shared_page(
         rt: &'a R,
         registry: &'a PageRegistry<N, C, H, G>,
@@ -115,9 +115,9 @@ impl<S: Registers> Registrar<S> {
     ///
     /// # Errors
     ///
-    /// The first that is so: [`FamilyRefusal::Name`], 1, 3, 2, 6; [`FamilyRefusal::Help`], 3, 5, 6; [`FamilyRefusal::Label`] with the
-    /// label's place, 1, 3, 2, 4, 6; [`FamilyRefusal::Labels`], 9, 7; [`FamilyRefusal::Register`], 19, 23, 6. Nothing has changed
-    /// then.
+    /// The first that is so: [`FamilyRefusal::Name`], 1, 3, 2, 6; [`FamilyRefusal::Help`], 3, 5, 6; [`FamilyRefusal::Label`] with
+    /// the label's place, 1, 3, 2, 4, 6; [`FamilyRefusal::Labels`], 9, 7; [`FamilyRefusal::Register`], 19, 23, 6. Nothing has
+    /// changed then.
     pub fn counter_family(
         &mut self,
         name: &str,
@@ -143,10 +143,11 @@ impl<S: Registers> Registrar<S> {
     ///
     /// # Errors
     ///
-    /// The first that is so: [`ChildRefusal::OtherRegistry`], 20, the family is of a registry of another id; [`ChildRefusal::Value`] with
-    /// the value's place, 3, 6; [`ChildRefusal::Child`], 21, of a page 46, 22, 6. Nothing has changed then; but of a page,
-    /// after 6, there may be a board more, and a part of the family there, without children, which no text shows. Of two registries of one id:
-    /// [`ChildRefusal::Child`], 20, and [`ChildRefusal::OtherKind`], 28, after which a child of another kind may have been made.
+    /// The first that is so: [`ChildRefusal::OtherRegistry`], 20, the family is of a registry of another id;
+    /// [`ChildRefusal::Value`] with the value's place, 3, 6; [`ChildRefusal::Child`], 21, of a page 46, 22, 6. Nothing has
+    /// changed then; but of a page, after 6, there may be a board more, and a part of the family there, without children, which
+    /// no text shows. Of two registries of one id: [`ChildRefusal::Child`], 20, and [`ChildRefusal::OtherKind`], 28, after which
+    /// a child of another kind may have been made.
     pub fn counter_of(
         &mut self,
         family: &CounterFamily,
@@ -154,7 +155,8 @@ impl<S: Registers> Registrar<S> {
     ) -> Result<Counter, Refused<ChildRefusal>>
         ensures given { IfOk result (λ handle. AsksChild S.id_in S.gave self.old.at self.new.at family.now.registry family.now.id
             (texts_of values.now) Kinds.Counter (Result.Ok (Handles.Counter handle))) }
-        ensures fault { IfErr result (λ refused. AsksChild S.id_in S.gave self.old.at self.new.at family.now.registry family.now.id
+        ensures fault { IfErr result (λ refused. AsksChild S.id_in S.gave self.old.at self.new.at family.now.registry
+            family.now.id
             (texts_of values.now) Kinds.Counter (Result.Err refused.fault)) }
         ensures named { IfErr result (λ refused. refused.name ≡ family.now.name) }
     {
@@ -175,8 +177,8 @@ impl<S: Registers> Registrar<S> {
     ///
     /// # Errors
     ///
-    /// [`MetricRefusal::Family`], as [`Registrar::counter_family`] of no labels; then [`MetricRefusal::Child`], 22 or 6: the family stands,
-    /// without a child.
+    /// [`MetricRefusal::Family`], as [`Registrar::counter_family`] of no labels; then [`MetricRefusal::Child`], 22 or 6: the
+    /// family stands, without a child.
     pub fn counter(&mut self, name: &str, help: &str) -> Result<Counter, Refused<MetricRefusal>>
         ensures made { IfOk result
             (λ handle. AsksMetric S.id_in S.registered S.gave self.old.at self.new.at
@@ -197,9 +199,9 @@ impl<S: Registers> Registrar<S> {
     ///
     /// # Errors
     ///
-    /// The first that is so: [`FamilyRefusal::Name`], 1, 3, 2, 6; [`FamilyRefusal::Help`], 3, 5, 6; [`FamilyRefusal::Label`] with the
-    /// label's place, 1, 3, 2, 4, 6; [`FamilyRefusal::Labels`], 9, 7; [`FamilyRefusal::Register`], 19, 23, 6. Nothing has changed
-    /// then.
+    /// The first that is so: [`FamilyRefusal::Name`], 1, 3, 2, 6; [`FamilyRefusal::Help`], 3, 5, 6; [`FamilyRefusal::Label`] with
+    /// the label's place, 1, 3, 2, 4, 6; [`FamilyRefusal::Labels`], 9, 7; [`FamilyRefusal::Register`], 19, 23, 6. Nothing has
+    /// changed then.
     pub fn gauge_family(
         &mut self,
         name: &str,
@@ -225,10 +227,11 @@ impl<S: Registers> Registrar<S> {
     ///
     /// # Errors
     ///
-    /// The first that is so: [`ChildRefusal::OtherRegistry`], 20, the family is of a registry of another id; [`ChildRefusal::Value`] with
-    /// the value's place, 3, 6; [`ChildRefusal::Child`], 21, of a page 46, 22, 6. Nothing has changed then; but of a page,
-    /// after 6, there may be a board more, and a part of the family there, without children, which no text shows. Of two registries of one id:
-    /// [`ChildRefusal::Child`], 20, and [`ChildRefusal::OtherKind`], 28, after which a child of another kind may have been made.
+    /// The first that is so: [`ChildRefusal::OtherRegistry`], 20, the family is of a registry of another id;
+    /// [`ChildRefusal::Value`] with the value's place, 3, 6; [`ChildRefusal::Child`], 21, of a page 46, 22, 6. Nothing has
+    /// changed then; but of a page, after 6, there may be a board more, and a part of the family there, without children, which
+    /// no text shows. Of two registries of one id: [`ChildRefusal::Child`], 20, and [`ChildRefusal::OtherKind`], 28, after which
+    /// a child of another kind may have been made.
     pub fn gauge_of(
         &mut self,
         family: &GaugeFamily,
@@ -236,7 +239,8 @@ impl<S: Registers> Registrar<S> {
     ) -> Result<Gauge, Refused<ChildRefusal>>
         ensures given { IfOk result (λ handle. AsksChild S.id_in S.gave self.old.at self.new.at family.now.registry family.now.id
             (texts_of values.now) Kinds.Gauge (Result.Ok (Handles.Gauge handle))) }
-        ensures fault { IfErr result (λ refused. AsksChild S.id_in S.gave self.old.at self.new.at family.now.registry family.now.id
+        ensures fault { IfErr result (λ refused. AsksChild S.id_in S.gave self.old.at self.new.at family.now.registry
+            family.now.id
             (texts_of values.now) Kinds.Gauge (Result.Err refused.fault)) }
         ensures named { IfErr result (λ refused. refused.name ≡ family.now.name) }
     {
@@ -257,8 +261,8 @@ impl<S: Registers> Registrar<S> {
     ///
     /// # Errors
     ///
-    /// [`MetricRefusal::Family`], as [`Registrar::gauge_family`] of no labels; then [`MetricRefusal::Child`], 22 or 6: the family stands,
-    /// without a child.
+    /// [`MetricRefusal::Family`], as [`Registrar::gauge_family`] of no labels; then [`MetricRefusal::Child`], 22 or 6: the family
+    /// stands, without a child.
     pub fn gauge(&mut self, name: &str, help: &str) -> Result<Gauge, Refused<MetricRefusal>>
         ensures made { IfOk result
             (λ handle. AsksMetric S.id_in S.registered S.gave self.old.at self.new.at
@@ -275,13 +279,14 @@ impl<S: Registers> Registrar<S> {
         }
     }
 
-    /// A family of histograms with labels with these bounds: at most 24, rising, none over 2^48 - 1. [`Registrar::histogram_of`] gives its children.
+    /// A family of histograms with labels with these bounds: at most 24, rising, none over 2^48 - 1. [`Registrar::histogram_of`]
+    /// gives its children.
     ///
     /// # Errors
     ///
-    /// The first that is so: [`FamilyRefusal::Name`], 1, 3, 2, 6; [`FamilyRefusal::Help`], 3, 5, 6; [`FamilyRefusal::Label`] with the
-    /// label's place, 1, 3, 2, 4, 6; [`FamilyRefusal::Histogram`], 9, 7, 8, 10; [`FamilyRefusal::Register`], 19, 23, 6. Nothing has changed
-    /// then.
+    /// The first that is so: [`FamilyRefusal::Name`], 1, 3, 2, 6; [`FamilyRefusal::Help`], 3, 5, 6; [`FamilyRefusal::Label`] with
+    /// the label's place, 1, 3, 2, 4, 6; [`FamilyRefusal::Histogram`], 9, 7, 8, 10; [`FamilyRefusal::Register`], 19, 23, 6.
+    /// Nothing has changed then.
     pub fn histogram_family(
         &mut self,
         name: &str,
@@ -304,14 +309,16 @@ impl<S: Registers> Registrar<S> {
         Ok(HistogramFamily::of(self.at.id(), id, name))
     }
 
-    /// The histogram of these label values, which is made where there is none. A thread that counts is given it, and asks no more.
+    /// The histogram of these label values, which is made where there is none. A thread that counts is given it, and asks no
+    /// more.
     ///
     /// # Errors
     ///
-    /// The first that is so: [`ChildRefusal::OtherRegistry`], 20, the family is of a registry of another id; [`ChildRefusal::Value`] with
-    /// the value's place, 3, 6; [`ChildRefusal::Child`], 21, of a page 46, 22, 6. Nothing has changed then; but of a page,
-    /// after 6, there may be a board more, and a part of the family there, without children, which no text shows. Of two registries of one id:
-    /// [`ChildRefusal::Child`], 20, and [`ChildRefusal::OtherKind`], 28, after which a child of another kind may have been made.
+    /// The first that is so: [`ChildRefusal::OtherRegistry`], 20, the family is of a registry of another id;
+    /// [`ChildRefusal::Value`] with the value's place, 3, 6; [`ChildRefusal::Child`], 21, of a page 46, 22, 6. Nothing has
+    /// changed then; but of a page, after 6, there may be a board more, and a part of the family there, without children, which
+    /// no text shows. Of two registries of one id: [`ChildRefusal::Child`], 20, and [`ChildRefusal::OtherKind`], 28, after which
+    /// a child of another kind may have been made.
     pub fn histogram_of(
         &mut self,
         family: &HistogramFamily,
@@ -319,7 +326,8 @@ impl<S: Registers> Registrar<S> {
     ) -> Result<Histogram, Refused<ChildRefusal>>
         ensures given { IfOk result (λ handle. AsksChild S.id_in S.gave self.old.at self.new.at family.now.registry family.now.id
             (texts_of values.now) Kinds.Histogram (Result.Ok (Handles.Histogram handle))) }
-        ensures fault { IfErr result (λ refused. AsksChild S.id_in S.gave self.old.at self.new.at family.now.registry family.now.id
+        ensures fault { IfErr result (λ refused. AsksChild S.id_in S.gave self.old.at self.new.at family.now.registry
+            family.now.id
             (texts_of values.now) Kinds.Histogram (Result.Err refused.fault)) }
         ensures named { IfErr result (λ refused. refused.name ≡ family.now.name) }
     {
@@ -340,8 +348,8 @@ impl<S: Registers> Registrar<S> {
     ///
     /// # Errors
     ///
-    /// [`MetricRefusal::Family`], as [`Registrar::histogram_family`] of no labels; then [`MetricRefusal::Child`], 22 or 6: the family stands,
-    /// without a child.
+    /// [`MetricRefusal::Family`], as [`Registrar::histogram_family`] of no labels; then [`MetricRefusal::Child`], 22 or 6: the
+    /// family stands, without a child.
     pub fn histogram(
         &mut self,
         name: &str,

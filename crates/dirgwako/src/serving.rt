@@ -64,8 +64,8 @@ impl<R: Clock, S: ScrapeFrom> Connections for Listening<'_, R, S> {
     }
 }
 
-/// The next connection. Where a client went away before it was accepted, or the system has no file left for a moment, the listener tells
-/// that as a failure of its own, so one that fails is asked again a little later.
+/// The next connection. Where a client went away before it was accepted, or the system has no file left for a moment, the
+/// listener tells that as a failure of its own, so one that fails is asked again a little later.
 fn accept(clock: &impl Clock, listener: &TcpListener) -> io::Result<TcpStream> {
     for _try in 1..TRIES {
         if let Ok((stream, _peer)) = listener.accept() {
@@ -110,9 +110,10 @@ fn no_patience() -> io::Error {
 }
 
 /// Answers so many connections, one after the other, with scrapes of what is shared, a registry or a page behind its lock:
-/// [`scrape_http::serve_one`]. What goes wrong with one of them does not end the others. Each may take as long as `patience`, which is not 0: from when it is accepted until its request is
-/// read, its reply written and the connection ended, of which the last takes a second at most: no client holds the server for longer. A scrape of a registry that was given up is asked for up to three times more, and a page asks each board again by itself; then the
-/// reply is 503.
+/// [`scrape_http::serve_one`]. What goes wrong with one of them does not end the others. Each may take as long as `patience`,
+/// which is not 0: from when it is accepted until its request is read, its reply written and the connection ended, of which the
+/// last takes a second at most: no client holds the server for longer. A scrape of a registry that was given up is asked for up
+/// to three times more, and a page asks each board again by itself; then the reply is 503.
 ///
 /// # Errors
 ///
@@ -145,8 +146,8 @@ pub fn serve<R: Wait + Clock, X: Shared>(
     )
 }
 
-/// Answers the next connection as [`serve`], and tells its reply: None where the client went away, sent no byte, or took longer than the
-/// patience. So a service counts its own replies by their status.
+/// Answers the next connection as [`serve`], and tells its reply: None where the client went away, sent no byte, or took longer
+/// than the patience. So a service counts its own replies by their status.
 ///
 /// # Errors
 ///
@@ -175,10 +176,10 @@ pub fn serve_next<R: Wait + Clock, X: Shared>(
     at.answer_next()
 }
 
-/// [`serve`] of a registry that nobody shares ([`RegistryState`](registry_state::RegistryState), as it is behind a lock; or what else makes
-/// scrapes), which comes back after it. So its clauses say what each reply that it tells did to the registry: each 200 came of a scrape that this
-/// registry made and kept, and each other reply than 503 left it as it was. A scrape that was given up is asked for up to
-/// [`MakesScrapes::again`] times more.
+/// [`serve`] of a registry that nobody shares ([`RegistryState`](registry_state::RegistryState), as it is behind a lock; or what
+/// else makes scrapes), which comes back after it. So its clauses say what each reply that it tells did to the registry: each 200
+/// came of a scrape that this registry made and kept, and each other reply than 503 left it as it was. A scrape that was given up
+/// is asked for up to [`MakesScrapes::again`] times more.
 ///
 /// # Errors
 ///

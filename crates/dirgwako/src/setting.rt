@@ -12,9 +12,9 @@ use ledger_core::Gauge;
 use page_crew::{Change, PageRecorder, PublishFault, down, up};
 use snapshot_update::CountFault;
 
-/// A gauge that one thread sets, such as the length of a queue. Gauges go up and down by recorders; this keeps the value that it was set to last,
-/// 0 at first, and goes up or down by the difference. What is shown is that value while nobody else counts on the gauge. It is no copy: two of
-/// one gauge, each set, would add up.
+/// A gauge that one thread sets, such as the length of a queue. Gauges go up and down by recorders; this keeps the value that it
+/// was set to last, 0 at first, and goes up or down by the difference. What is shown is that value while nobody else counts on
+/// the gauge. It is no copy: two of one gauge, each set, would add up.
 #[derive(Debug, Drop)]
 pub struct GaugeCell {
     gauge: Gauge,
@@ -39,7 +39,8 @@ impl GaugeCell {
         self.last
     }
 
-    /// The change that takes the gauge to this value, for a list that is published. Where it was, tell that by [`GaugeCell::told`].
+    /// The change that takes the gauge to this value, for a list that is published. Where it was, tell that by
+    /// [`GaugeCell::told`].
     pub fn change_to(&self, value: i64) -> Change
         ensures { Moves self.now value result }
     {
@@ -63,7 +64,8 @@ impl GaugeCell {
     ///
     /// # Errors
     ///
-    /// As [`Recorder::up`]: 16, 15, 11, and 12 where all that the gauge went up or down by passes 2^48 - 1. Nothing has changed then.
+    /// As [`Recorder::up`]: 16, 15, 11, and 12 where all that the gauge went up or down by passes 2^48 - 1. Nothing has changed
+    /// then.
     pub fn set<const N: usize, const C: usize, const H: usize, const G: usize>(
         &mut self,
         recorder: &mut Recorder<'_, N, C, H, G>,

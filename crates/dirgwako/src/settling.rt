@@ -73,16 +73,16 @@ fn set_totals<const N: usize, const C: usize, const H: usize, const G: usize>(
 }
 
 /// Exact totals, for the end of a run whose numbers are a bill: of all recorders of a crew, in the order in which
-/// [`Crew::open`](crate::Crew::open) has handed them out. It does not check that they are of one board. It scans nothing: while it is called,
-/// none of them publishes.
+/// [`Crew::open`](crate::Crew::open) has handed them out. It does not check that they are of one board. It scans nothing: while
+/// it is called, none of them publishes.
 ///
-/// After Ok the vector of `out` is how often each of them has published, and each total is exactly the sum of all that they published. What
-/// stands in a tally that was not flushed is not in it. It takes no memory and waits for nobody.
+/// After Ok the vector of `out` is how often each of them has published, and each total is exactly the sum of all that they
+/// published. What stands in a tally that was not flushed is not in it. It takes no memory and waits for nobody.
 ///
 /// # Errors
 ///
-/// 18 [`NotAll`], with the least place at which another recorder stands than that of this worker, or none; `N` where there is one too many.
-/// `out` is as it was.
+/// 18 [`NotAll`], with the least place at which another recorder stands than that of this worker, or none; `N` where there is one
+/// too many. `out` is as it was.
 pub fn settle<const N: usize, const C: usize, const H: usize, const G: usize>(
     recorders: &[Recorder<'_, N, C, H, G>],
     out: &mut Snapshot<N, C, H, G>,

@@ -11,8 +11,8 @@ use scrape_http::{NoScrape, ScrapeFrom};
 use scrape_server::FromRegistry;
 use std::sync::Wait;
 
-/// What stands behind a lock and is scraped: a [`Registry`](crate::Registry) or a [`PageRegistry`]. It names, for contracts alone, what a scrape
-/// of it shows.
+/// What stands behind a lock and is scraped: a [`Registry`](crate::Registry) or a [`PageRegistry`]. It names, for contracts
+/// alone, what a scrape of it shows.
 pub trait Shared {
     // What a scrape of it shows.
     ghost shows: { Scraped → Type 0 };

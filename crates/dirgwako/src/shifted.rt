@@ -22,8 +22,8 @@ impl<S: Registers> Registrar<S> {
     ///
     /// # Errors
     ///
-    /// Those of [`Registrar::counter_family`], in its order, and before those of the registry [`FamilyRefusal::Digits`], 43. Nothing has
-    /// changed then.
+    /// Those of [`Registrar::counter_family`], in its order, and before those of the registry [`FamilyRefusal::Digits`], 43.
+    /// Nothing has changed then.
     pub fn counter_family_shifted(
         &mut self,
         name: &str,
@@ -50,8 +50,8 @@ impl<S: Registers> Registrar<S> {
     ///
     /// # Errors
     ///
-    /// Those of [`Registrar::gauge_family`], in its order, and before those of the registry [`FamilyRefusal::Digits`], 43. Nothing has
-    /// changed then.
+    /// Those of [`Registrar::gauge_family`], in its order, and before those of the registry [`FamilyRefusal::Digits`], 43.
+    /// Nothing has changed then.
     pub fn gauge_family_shifted(
         &mut self,
         name: &str,
@@ -73,13 +73,13 @@ impl<S: Registers> Registrar<S> {
         Ok(GaugeFamily::of(self.at.id(), id, name))
     }
 
-    /// A family of histograms with labels, whose bounds and sums the text shows shifted by `digits` decimal digits, at most 9. The bounds
-    /// are of the unit of the numbers. [`Registrar::histogram_of`] gives its children.
+    /// A family of histograms with labels, whose bounds and sums the text shows shifted by `digits` decimal digits, at most 9.
+    /// The bounds are of the unit of the numbers. [`Registrar::histogram_of`] gives its children.
     ///
     /// # Errors
     ///
-    /// Those of [`Registrar::histogram_family`], in its order, and before those of the registry [`FamilyRefusal::Digits`], 43. Nothing
-    /// has changed then.
+    /// Those of [`Registrar::histogram_family`], in its order, and before those of the registry [`FamilyRefusal::Digits`], 43.
+    /// Nothing has changed then.
     pub fn histogram_family_shifted(
         &mut self,
         name: &str,
@@ -102,9 +102,9 @@ impl<S: Registers> Registrar<S> {
         Ok(HistogramFamily::of(self.at.id(), id, name))
     }
 
-    /// A histogram without labels that is told microseconds and shown in seconds, with these bounds, in microseconds: at most 24, rising,
-    /// none over 2^48 - 1, which is some nine years. [`seconds_default`](crate::seconds_default) has those that Prometheus' libraries
-    /// have.
+    /// A histogram without labels that is told microseconds and shown in seconds, with these bounds, in microseconds: at most 24,
+    /// rising, none over 2^48 - 1, which is some nine years. [`seconds_default`](crate::seconds_default) has those that
+    /// Prometheus' libraries have.
     ///
     /// # Errors
     ///

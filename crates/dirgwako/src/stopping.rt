@@ -109,14 +109,15 @@ fn answer_by<R: Threads + Wait + Clock + Sync, X: Shared + Sync>(
     Ok(one?.and(more?))
 }
 
-/// [`serve_on_threads`](crate::serve_on_threads) until `stop` is true, which each thread sees behind the connection that it answers, or within a
-/// hundredth of a second (a tenth, where its listener fails). As long may a connection wait to be accepted. It tells what became of all connections.
-/// The listener does not wait for connections meanwhile (`set_nonblocking`), and does again at the end.
+/// [`serve_on_threads`](crate::serve_on_threads) until `stop` is true, which each thread sees behind the connection that it
+/// answers, or within a hundredth of a second (a tenth, where its listener fails). As long may a connection wait to be accepted.
+/// It tells what became of all connections. The listener does not wait for connections meanwhile (`set_nonblocking`), and does
+/// again at the end.
 ///
 /// # Errors
 ///
-/// `InvalidInput` where `patience` is 0, or `threads` is not 1 to 32. The listener's, where it has failed 64 times in a row, a tenth of a second apart: the other threads go on
-/// until `stop` is true.
+/// `InvalidInput` where `patience` is 0, or `threads` is not 1 to 32. The listener's, where it has failed 64 times in a row, a
+/// tenth of a second apart: the other threads go on until `stop` is true.
 pub fn serve_until<R: Threads + Wait + Clock + Sync, X: Shared + Sync>(
     rt: &R,
     listener: &TcpListener,

@@ -42,13 +42,13 @@ fn serve_by<R: Threads + Wait + Clock + Sync, X: Shared + Sync>(
     one
 }
 
-/// [`serve_forever`] by `threads` threads, 1 to 32, of which each accepts connections and answers them: a client that is slow holds up the one that
-/// answers it, and none of the others.
+/// [`serve_forever`] by `threads` threads, 1 to 32, of which each accepts connections and answers them: a client that is slow
+/// holds up the one that answers it, and none of the others.
 ///
 /// # Errors
 ///
-/// `InvalidInput` where `patience` is 0, or `threads` is not 1 to 32. The listener's, when all threads have ended by it, as [`serve_forever`]: it ends
-/// with nothing else.
+/// `InvalidInput` where `patience` is 0, or `threads` is not 1 to 32. The listener's, when all threads have ended by it, as
+/// [`serve_forever`]: it ends with nothing else.
 pub fn serve_on_threads<R: Threads + Wait + Clock + Sync, X: Shared + Sync>(
     rt: &R,
     listener: &TcpListener,

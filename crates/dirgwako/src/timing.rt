@@ -1,8 +1,8 @@
 //! How long something took.
 use std::time::{Clock, Instant};
 
-/// When something began, for a histogram that is told microseconds and shown in seconds. A clock that fails loses no count: what it would have timed
-/// is told as 0 microseconds.
+/// When something began, for a histogram that is told microseconds and shown in seconds. A clock that fails loses no count: what
+/// it would have timed is told as 0 microseconds.
 #[derive(Clone, Copy, Debug)]
 pub struct Timer {
     start: Option<Instant>,

@@ -4,8 +4,8 @@ ghost use Rattle.std.specs.Prelude.{◌≡◌, ◌+◌, ◌*◌, ◌<◌, ◌≤
 use ledger_core::{Counter, Gauge, HistTotals, Histogram};
 use snapshot_scan::Snapshot;
 
-/// The total of a counter; None exactly where the board has no such slot. That the handle is of the board that was scanned nobody looks at: a
-/// snapshot has no id.
+/// The total of a counter; None exactly where the board has no such slot. That the handle is of the board that was scanned nobody
+/// looks at: a snapshot has no id.
 pub fn counter_total<const N: usize, const C: usize, const H: usize, const G: usize>(
     snapshot: &Snapshot<N, C, H, G>,
     counter: &Counter,

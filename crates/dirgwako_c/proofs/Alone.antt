@@ -29,21 +29,25 @@ module _ {N C H G : ℕ} where
     Alone result = AsksAlone (owner_in before) (owner_in after) number result
 
     -- the board, after it
-    pub now_there : (result : Result Scraped NoScrape) (did : Alone result) → slice_get (page_in after).boards number ≡ Some did.1.after
+    pub now_there : (result : Result Scraped NoScrape) (did : Alone result) → slice_get (page_in after).boards number ≡ Some
+        did.1.after
     now_there result did =
         ap (λ (page : PageView (SharedScanner N C H G)). slice_get page.boards number) did.1.new_is
         ∙ set_now (page_in before).boards number did.1.before did.1.after did.1.at
 
     -- the board that was read behind it
-    pub board_there : (scrape : Scraped) → Alone (Ok scrape) → (xs : List (Board N C H G)) (board : Board N C H G) → xs ≡ (page_in after).boards
+    pub board_there : (scrape : Scraped) → Alone (Ok scrape) → (xs : List (Board N C H G)) (board : Board N C H G) → xs ≡ (page_in
+        after).boards
         → board ≡ get_or xs number board → slice_get (page_in after).boards number ≡ Some board
     board_there scrape did xs board same read =
         let now = (page_in after).boards in
         let within = slice_get_within now number did.1.after (now_there (Ok scrape) did) in
-        slice_get_read now (length now) number board refl within (subst (λ (l : List (Board N C H G)). board ≡ get_or l number board) same read)
+        slice_get_read now (length now) number board refl within (subst (λ (l : List (Board N C H G)). board ≡ get_or l number
+        board) same read)
 
     -- where a scrape was made, one is kept
-    pub kept_there : (scrape : Scraped) → Alone (Ok scrape) → (board : Board N C H G) → slice_get (page_in after).boards number ≡ Some board
+    pub kept_there : (scrape : Scraped) → Alone (Ok scrape) → (board : Board N C H G) → slice_get (page_in after).boards number ≡
+        Some board
         → IsSome board.state.last
     kept_there scrape did board there =
         let (mid, given) = at_end (Scrapes N C H G recorded_in quit_in gave_in gave_up_in) 3 did.1.before
@@ -52,7 +56,8 @@ module _ {N C H G : ℕ} where
         let is = same_there (slice_get (page_in after).boards number) did.1.after board (now_there (Ok scrape) did) there in
         subst (λ (b : Board N C H G). IsSome b.state.last) is (subst (λ (o : Option Answer). IsSome o) (sym last) refl)
 
-    read_alone : (result : Result Scraped NoScrape) (answer : ℕ) (had has : List ℕ) (had_len has_len : ℕ) → SparesStay before after
+    read_alone : (result : Result Scraped NoScrape) (answer : ℕ) (had has : List ℕ) (had_len has_len : ℕ) → SparesStay before
+        after
         → TellsNobody (owner_in before) (owner_in after) → (did : Alone result)
         → ReadsBoard did.1.before did.1.after answer had has had_len has_len
         → Reads number answer before after had has had_len has_len
@@ -75,7 +80,8 @@ module _ {N C H G : ℕ} where
           → IsHandedOver (numbers_of board.id moment) answer had has has_len
           → Reads number answer before after had has had_len has_len
       read_made scrape did board moment there last handed =
-          let is = sym (same_there (slice_get (page_in after).boards number) did.1.after board (now_there (Ok scrape) did) there) in
+          let is = sym (same_there (slice_get (page_in after).boards number) did.1.after board (now_there (Ok scrape) did) there)
+          in
           read_alone (Ok scrape) answer had has had_len has_len stay untold did (record {
             made = Ok tt;
             asks = (scrape, did.1.scrapes);
@@ -87,7 +93,8 @@ module _ {N C H G : ℕ} where
           })
 
     pub read_none : (why : NoScrape) (answer : ℕ) (had : List ℕ) (had_len : ℕ) → SparesStay before after
-        → TellsNobody (owner_in before) (owner_in after) → Alone (Err why) → answer ≡ no_scrape_number why → Reads number answer before after had had had_len had_len
+        → TellsNobody (owner_in before) (owner_in after) → Alone (Err why) → answer ≡ no_scrape_number why → Reads number answer
+        before after had had had_len had_len
     read_none why answer had had_len stay untold did told =
         read_alone (Err why) answer had had had_len had_len stay untold did (record {
           made = Err why;
@@ -96,10 +103,20 @@ module _ {N C H G : ℕ} where
         })
 
   -- the same, where the owner alone is another
-  pub none_read : (before : HeldRegistry N C H G) (crew : Owner N C H G) (number : ℕ) (why told : NoScrape) (answer : ℕ) (had : List ℕ) (had_len : ℕ)
-      → TellsNobody (owner_in before) crew → told ≡ why → AsksAlone (owner_in before) crew number (Err told) → answer ≡ no_scrape_number why
-      → Reads number answer before (record before { registrar = record before.registrar { at = record before.registrar.at { crew = crew } } })
+  pub none_read : (before : HeldRegistry N C H G) (crew : Owner N C H G) (number : ℕ) (why told : NoScrape) (answer : ℕ) (had :
+      List ℕ) (had_len : ℕ)
+      → TellsNobody (owner_in before) crew → told ≡ why → AsksAlone (owner_in before) crew number (Err told) → answer ≡
+      no_scrape_number why
+      → Reads number answer before (record before {
+        registrar = record before.registrar {
+          at = record before.registrar.at {
+            crew =
+                crew;
+          };
+        };
+      })
       had had had_len had_len
   none_read before crew number why told answer had had_len untold is did number_is =
-      read_none before (record before { registrar = record before.registrar { at = record before.registrar.at { crew = crew } } }) number why answer
+      read_none before (record before { registrar = record before.registrar { at = record before.registrar.at { crew = crew } } })
+      number why answer
       had had_len (refl, refl) untold (subst (λ (w : NoScrape). AsksAlone (owner_in before) crew number (Err w)) is did) number_is

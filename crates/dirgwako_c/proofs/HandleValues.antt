@@ -33,10 +33,18 @@ handle_own p n = (plainly (RawPtr ∷ u64 ∷ [])).own_val (p, (n, tt))
 pub handle_told : (p : Ptr) (n : ℕ) (vs : List Val) → shadow (handle_own p n vs) → (vs ≡ handle_val p n ∷ []) × (n < 2 ^ 64)
 handle_told p n vs s = (s.1.0 ∙ (λ i. vstruct (of_list (s.1.1.0 i ++ (s.1.1.1.0.0 i ++ []))) ∷ []), s.1.1.1.0.1)
 
-pub handle_made : {M : Type 1} {𝓤 : Ura M} (𝓛 : Logic 𝓤) (p : Ptr) (n : ℕ) → (n < 2 ^ 64) → ent 𝓤 (emp 𝓤) (sem 𝓛 (handle_own p n (handle_val p n ∷ [])))
-handle_made 𝓛 p n f = makes_shadow 𝓛 (handle_own p n (handle_val p n ∷ [])) (λ _. (tt, (tt, ((tt, tt), tt)))) ((ptr_val p ∷ [], (vint w64 n ∷ [], tt)), (refl, (refl, ((refl, f), tt))))
+pub handle_made : {M : Type 1} {𝓤 : Ura M} (𝓛 : Logic 𝓤) (p : Ptr) (n : ℕ) → (n < 2 ^ 64) → ent 𝓤 (emp 𝓤) (sem 𝓛 (handle_own p n
+    (handle_val p n ∷ [])))
+handle_made 𝓛 p n f = makes_shadow 𝓛 (handle_own p n (handle_val p n ∷ [])) (λ _. (tt, (tt, ((tt, tt), tt)))) (
+  (
+    ptr_val p ∷ [],
+    (vint w64 n ∷ [], tt),
+  ),
+  (refl, (refl, ((refl, f), tt))),
+)
 
-pub handle_typed : (p : Ptr) (n : ℕ) → (n < 2 ^ 64) → Good (ty_struct [] (tcons ty_ptr (tcons (ty_int w64) tnil))) (handle_val p n)
+pub handle_typed : (p : Ptr) (n : ℕ) → (n < 2 ^ 64) → Good (ty_struct [] (tcons ty_ptr (tcons (ty_int w64) tnil))) (handle_val p
+    n)
 handle_typed (block_ptr b o) n f = (tt, (tt, (record { fits = f }, tt)))
 handle_typed null_ptr n f = (tt, (record { fits = lit< tt }, (record { fits = f }, tt)))
 

@@ -7,7 +7,11 @@ use Rattle.dirgwako_c.specs.declared.change.Change.{Change}
 -- where one is not of the board of the first, they are of no board
 no_board : (changes : List Change) (d : Change) (number : ℕ) → IsNoList (slice_index_or changes 0 d).registry changes number
     → AreOfNoBoard changes number
-no_board changes d number (inl apart) = inl (apart.0, λ id all. apart.1 (λ k e within. all k e within ∙ sym (all 0 d (omega arith))))
+no_board changes d number (inl apart) = inl (
+  apart.0,
+  λ id all. apart.1 (λ k e within. all k e within ∙ sym (all 0 d (omega
+      arith))),
+)
 no_board changes d number (inr none) = inr none
 
 -- then nothing is published

@@ -10,12 +10,14 @@ use Rattle.metric_desc.specs.Desc.{Descriptor}
 use Rattle.metric_desc.specs.declared.kind.Kind.{Kind}
 use Rattle.registry_state.specs.declared.handle.FamilyId.{FamilyId}
 use Rattle.registry_state.specs.declared.handle.Handle.{Handle}
-use Rattle.dirgwako_c.specs.Registries.{Grouped, in_group, AsksMetricAt, AsksFamilyAt, AsksChildAt, metric_answer, MakesNamed, MakesFamilyBy, GivesChildBy}
+use Rattle.dirgwako_c.specs.Registries.{Grouped, in_group, AsksMetricAt, AsksFamilyAt, AsksChildAt, metric_answer}
+use Rattle.dirgwako_c.specs.Registries.{MakesNamed, MakesFamilyBy, GivesChildBy}
 
 module _ {N C H G : ℕ} where
   module _ {A : Type 0} (handle_of : A → Handle) (before after : Grouped N C H G) (had has : A) (name help : List ℕ)
       (desc_of : (name help : List ℕ) → Descriptor) (n h : List ℕ) where
-    pub metric_made : (n ≡ name) × IsUtf8 name → (h ≡ help) × IsUtf8 help → AsksMetricAt (in_group 0 before) after (desc_of n h) (Ok (handle_of has))
+    pub metric_made : (n ≡ name) × IsUtf8 name → (h ≡ help) × IsUtf8 help → AsksMetricAt (in_group 0 before) after (desc_of n h)
+        (Ok (handle_of has))
         → MakesNamed handle_of 0 before after had has name help (desc_of name help)
     metric_made is also asks = inr (
       is.1,
@@ -46,10 +48,12 @@ module _ {N C H G : ℕ} where
       },
     )
 
-  module _ {A : Type 0} (before after : Grouped N C H G) (had has : A) (group : ℕ) (id_of : A → FamilyId) (registry_of : A → ℕ) (name help : List ℕ)
+  module _ {A : Type 0} (before after : Grouped N C H G) (had has : A) (group : ℕ) (id_of : A → FamilyId) (registry_of : A → ℕ)
+      (name help : List ℕ)
       (labels : List (List ℕ)) (desc_of : (name help : List ℕ) → (labels : List (List ℕ)) → Descriptor) (n h : List ℕ)
       (l : List (List ℕ)) where
-    pub family_made : (n ≡ name) × IsUtf8 name → (h ≡ help) × IsUtf8 help → l ≡ labels → All IsUtf8 labels → registry_of has ≡ first_of after.crew
+    pub family_made : (n ≡ name) × IsUtf8 name → (h ≡ help) × IsUtf8 help → l ≡ labels → All IsUtf8 labels → registry_of has ≡
+        first_of after.crew
         → AsksFamilyAt (in_group group before) after (desc_of n h l) (Ok (id_of has))
         → MakesFamilyBy 0 before after had has group id_of registry_of name help labels (desc_of name help labels)
     family_made is also are all same asks = inr (inr (
@@ -58,7 +62,8 @@ module _ {N C H G : ℕ} where
       all,
       record {
         made = Ok (id_of has);
-        asks = subst (λ (x : List (List ℕ)). AsksFamilyAt (in_group group before) after (desc_of name help x) (Ok (id_of has))) are
+        asks = subst (λ (x : List (List ℕ)). AsksFamilyAt (in_group group before) after (desc_of name help x) (Ok (id_of has)))
+            are
             (subst (λ (x : List ℕ). AsksFamilyAt (in_group group before) after (desc_of x help l) (Ok (id_of has))) is.0
             (subst (λ (x : List ℕ). AsksFamilyAt (in_group group before) after (desc_of n x l) (Ok (id_of has))) also.0 asks));
         answer_is = refl;
@@ -68,7 +73,8 @@ module _ {N C H G : ℕ} where
     ))
 
     pub family_refused : (fault : FamilyRefusal) (answer : ℕ) → answer ≡ family_refusal_number fault → (n ≡ name) × IsUtf8 name
-        → (h ≡ help) × IsUtf8 help → l ≡ labels → All IsUtf8 labels → AsksFamilyAt (in_group group before) after (desc_of n h l) (Err fault)
+        → (h ≡ help) × IsUtf8 help → l ≡ labels → All IsUtf8 labels → AsksFamilyAt (in_group group before) after (desc_of n h l)
+        (Err fault)
         → MakesFamilyBy answer before after had had group id_of registry_of name help labels (desc_of name help labels)
     family_refused fault answer number is also are all asks = inr (inr (
       is.1,
@@ -86,7 +92,8 @@ module _ {N C H G : ℕ} where
     ))
 
   module _ {A : Type 0} (handle_of : A → Handle) (before after : Grouped N C H G) (had has : A) (registry : ℕ) (id : FamilyId)
-      (values : List (List ℕ)) (kind : Kind) (v : List (List ℕ)) (are : v ≡ values) (all : All IsUtf8 values) (r : ℕ) (i : FamilyId)
+      (values : List (List ℕ)) (kind : Kind) (v : List (List ℕ)) (are : v ≡ values) (all : All IsUtf8 values) (r : ℕ) (i :
+      FamilyId)
       (same_registry : r ≡ registry) (same_id : i ≡ id) where
     asked : (result : Result Handle ChildRefusal) → AsksChildAt before after r i v kind result
         → AsksChildAt before after registry id values kind result
@@ -108,7 +115,8 @@ module _ {N C H G : ℕ} where
     )
 
     pub child_refused : (fault : ChildRefusal) (answer : ℕ) → answer ≡ child_refusal_number fault
-        → AsksChildAt before after r i v kind (Err fault) → GivesChildBy answer before after had had handle_of registry id values kind
+        → AsksChildAt before after r i v kind (Err fault) → GivesChildBy answer before after had had handle_of registry id values
+        kind
     child_refused fault answer number asks = inr (
       all,
       record {

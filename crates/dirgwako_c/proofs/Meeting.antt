@@ -1,5 +1,6 @@
 -- Recorders that meet boards that came, one after the other.
-use Rattle.std.proofs.Common.{◌≡◌, ℕ, ◌+◌, ◌<◌, ◌≤◌, List, [], ◌++◌, All, length, map, get_or, set, inl, inr, refl, sym, ap, subst, ◌∙◌, arith, append_assoc, append-nil}
+use Rattle.std.proofs.Common.{◌≡◌, ℕ, ◌+◌, ◌<◌, ◌≤◌, List, [], ◌++◌, All, length, map, get_or, set, inl, inr, refl, sym, ap}
+use Rattle.std.proofs.Common.{subst, ◌∙◌, arith, append_assoc, append-nil}
 use Rattle.std.specs.Prelude.{Some, slice_get, option_map}
 use Rattle.std.proofs.Math.ListN.{length-set}
 use Rattle.std.proofs.lemmas.List.{map-set}
@@ -26,7 +27,8 @@ module _ {N C H G : ℕ} where
     ),
     (
       first.1.0 ++ second.1.0,
-      second.1.1 ∙ (ap (λ (l : List (OneSeat N C H G)). l ++ second.1.0) first.1.1 ∙ append_assoc (recorders_of (recorder_in a)) first.1.0 second.1.0),
+      second.1.1 ∙ (ap (λ (l : List (OneSeat N C H G)). l ++ second.1.0) first.1.1 ∙ append_assoc (recorders_of (recorder_in a))
+          first.1.0 second.1.0),
     ),
   )
 
@@ -71,10 +73,12 @@ module _ {N C H G : ℕ} where
 
   -- the same of recorders that are in boxes
   module _ {X : Type 0} (f : X → HeldRecorder N C H G) (board place : ℕ) (old : List (HeldRecorder N C H G)) (xs : List X)
-      (meeting : AreMeeting board place old (map f xs)) (x y : X) (a : HeldRecorder N C H G) (inside : place < length xs) (read : x ≡ get_or xs place x)
+      (meeting : AreMeeting board place old (map f xs)) (x y : X) (a : HeldRecorder N C H G) (inside : place < length xs) (read :
+      x ≡ get_or xs place x)
       (is : a ≡ f (get_or xs place x)) (met : HasMet a (f y)) where
     at : slice_get (map f xs) place ≡ Some a
-    at = slice_get-map f xs place ∙ (ap (option_map f) (slice_get_read xs (length xs) place x refl inside read) ∙ ap Some (ap f read ∙ sym is))
+    at = slice_get-map f xs place ∙ (ap (option_map f) (slice_get_read xs (length xs) place x refl inside read) ∙ ap Some (ap f
+        read ∙ sym is))
 
     pub box_met : HaveMet old (map f (set xs place y))
     box_met = subst (HaveMet old) (sym (map-set f xs place y)) (one_met board place old (map f xs) meeting a (f y) at met)
@@ -84,4 +88,9 @@ module _ {N C H G : ℕ} where
         (one_more board place old (map f xs) meeting a (f y) at met knows)
 
     pub box_stranger : length (recorders_of (recorder_in (f y))) ≤ board → HasStranger board (map f (set xs place y))
-    box_stranger few = subst (HasStranger board) (sym (map-set f xs place y)) (place, f y, set_now (map f xs) place a (f y) at, few)
+    box_stranger few = subst (HasStranger board) (sym (map-set f xs place y)) (
+      place,
+      f y,
+      set_now (map f xs) place a (f y) at,
+      few,
+    )

@@ -22,16 +22,20 @@ newest_all [] = refl
 newest_all (a ∷ answers) = refl
 
 module _ (n c h g : ℕ) where
-  leads_last : (entries : List Entry) (from to : State) → Leads n c h g from entries to → to.last ≡ newest_or from.last (scrapes entries)
+  leads_last : (entries : List Entry) (from to : State) → Leads n c h g from entries to → to.last ≡ newest_or from.last (scrapes
+      entries)
   leads_last [] from to is = ap (λ (s : State). s.last) (sym is)
   leads_last (Changed change ∷ entries) from to leads =
       leads_last entries (record { families = after from.families change; last = from.last }) to leads.1
   leads_last (Scraped answer ∷ entries) from to leads =
-      leads_last entries (record { families = from.families; last = Some answer }) to leads.1 ∙ newest_from answer (scrapes entries)
+      leads_last entries (record { families = from.families; last = Some answer }) to leads.1 ∙ newest_from answer (scrapes
+      entries)
 
   -- the last scrape of a state is the newest of its journal
-  pub replays_last : (journal : List Entry) (state : State) → Replays n c h g journal state → state.last ≡ newest (scrapes journal)
-  replays_last journal state replays = leads_last journal (record { families = []; last = None }) state replays ∙ newest_all (scrapes journal)
+  pub replays_last : (journal : List Entry) (state : State) → Replays n c h g journal state → state.last ≡ newest (scrapes
+      journal)
+  replays_last journal state replays = leads_last journal (record { families = []; last = None }) state replays ∙ newest_all
+      (scrapes journal)
 
 -- where there is a newest, there is one
 pub newest_some : (answers : List Answer) (a : Answer) → newest answers ≡ Some a → 1 ≤ length answers
@@ -43,7 +47,8 @@ none_left answers None is some = absurd (true≢false (sym some))
 none_left answers (Some a) is some = newest_some answers a (sym is)
 
 -- what stands at the last place is the newest
-pub newest_at : (answers : List Answer) (k : ℕ) (a : Answer) → suc k ≡ length answers → slice_get answers k ≡ Some a → newest answers ≡ Some a
+pub newest_at : (answers : List Answer) (k : ℕ) (a : Answer) → suc k ≡ length answers → slice_get answers k ≡ Some a → newest
+    answers ≡ Some a
 newest_at [] k a last is = absurd (omega (arith, last))
 newest_at (b ∷ []) zero a last is = is
 newest_at (b ∷ []) (suc k) a last is = absurd (none-some a is)

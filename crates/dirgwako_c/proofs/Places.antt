@@ -14,10 +14,12 @@ set_now (z ∷ xs) zero x y at = refl
 set_now (z ∷ xs) (suc i) x y at = set_now xs i x y at
 
 -- what was read at a place of a list
-pub there_read : {X : Type 0} (xs ys : List X) (i : ℕ) (x : X) → xs ≡ ys → i < length xs → x ≡ get_or xs i x → slice_get ys i ≡ Some x
+pub there_read : {X : Type 0} (xs ys : List X) (i : ℕ) (x : X) → xs ≡ ys → i < length xs → x ≡ get_or xs i x → slice_get ys i ≡
+    Some x
 there_read {X} xs ys i x same inside read =
     subst (λ (l : List X). slice_get l i ≡ Some x) same (slice_get_read xs (length xs) i x refl inside read)
 
 -- what holds of it
-pub holds_there : {X : Type 0} (P : X → Type 0) (xs : List X) (i : ℕ) (x : X) → slice_get xs i ≡ Some x → P x → IsSomeAnd (slice_get xs i) P
+pub holds_there : {X : Type 0} (P : X → Type 0) (xs : List X) (i : ℕ) (x : X) → slice_get xs i ≡ Some x → P x → IsSomeAnd
+    (slice_get xs i) P
 holds_there {X} P xs i x at holds = subst (λ (o : Option X). IsSomeAnd o P) (sym at) holds

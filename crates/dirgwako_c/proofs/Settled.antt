@@ -1,5 +1,6 @@
 -- Recorders that nobody has, and what they have published together on one board.
-use Rattle.std.proofs.Common.{◌≡◌, ℕ, zero, suc, ◌+◌, ◌<◌, ◌≤◌, List, [], ◌∷◌, ◌++◌, All, length, map, drop, inl, inr, refl, sym, ap, ◌∙◌, arith}
+use Rattle.std.proofs.Common.{◌≡◌, ℕ, zero, suc, ◌+◌, ◌<◌, ◌≤◌, List, [], ◌∷◌, ◌++◌, All, length, map, drop, inl, inr, refl}
+use Rattle.std.proofs.Common.{sym, ap, ◌∙◌, arith}
 use Rattle.std.specs.Prelude.{Option, Some, slice_get}
 use Rattle.std.proofs.lemmas.Option.{slice_get_cases}
 use Rattle.std.proofs.lemmas.List.Elements.{All-head, All-tail}
@@ -33,14 +34,16 @@ drop_both a zero l = ap (λ (n : ℕ). drop n l) (omega arith)
 drop_both a (suc b) [] = drop_none a ∙ sym (drop_none (a + suc b))
 drop_both a (suc b) (x ∷ l) = drop_both a b l ∙ ap (λ (n : ℕ). drop n (x ∷ l)) {x = suc (a + b)} {y = a + suc b} (omega arith)
 
-pub mapped_here : {A B : Type 0} (f : A → B) (l : List A) (p : ℕ) (x : A) → get_elem? l p ≡ some x → get_elem? (map f l) p ≡ some (f x)
+pub mapped_here : {A B : Type 0} (f : A → B) (l : List A) (p : ℕ) (x : A) → get_elem? l p ≡ some x → get_elem? (map f l) p ≡ some
+    (f x)
 mapped_here f [] p x e = absurd (some-ne-none x (sym e))
 mapped_here f (y ∷ l) zero x e = ap (λ z. some (f z)) (some-injective y x e)
 mapped_here f (y ∷ l) (suc p) x e = mapped_here f l p x e
 
 module _ {N C H G : ℕ} where
   -- the worker of a recorder stands at its place
-  pub worker_here : (rs : List (OneSeat N C H G)) (p : ℕ) (r : OneSeat N C H G) → get_elem? rs p ≡ some r → get_elem? (workers_of rs) p ≡ some (its r)
+  pub worker_here : (rs : List (OneSeat N C H G)) (p : ℕ) (r : OneSeat N C H G) → get_elem? rs p ≡ some r → get_elem? (workers_of
+      rs) p ≡ some (its r)
   worker_here rs p r e = mapped_here its rs p r e
 
   -- a worker of these recorders is that of the recorder at its place
@@ -49,7 +52,8 @@ module _ {N C H G : ℕ} where
   worker_at rs p w e = mapped_at its rs p w e
 
   -- a worker of these recorders stands before their end
-  pub worker_below : (rs : List (OneSeat N C H G)) (p : ℕ) (w : OneWorker N C H G) → get_elem? (workers_of rs) p ≡ some w → p < length rs
+  pub worker_below : (rs : List (OneSeat N C H G)) (p : ℕ) (w : OneWorker N C H G) → get_elem? (workers_of rs) p ≡ some w → p <
+      length rs
   worker_below rs p w e = let (r, there, is) = worker_at rs p w e in at_below rs p r there
 
   -- what those from a place on have published is what the one there has, and those behind it
@@ -86,7 +90,8 @@ module _ {N C H G : ℕ} where
         ap length (first_seat r rs s is) ∙ ap (λ (n : ℕ). suc n) (seats_many rs (All-tail (Knows board) r rs all))
 
     -- and each stands at the place of its recorder
-    pub seat_here : (rs : List (HeldRecorder N C H G)) → All (Knows board) rs → (p : ℕ) (r : HeldRecorder N C H G) (s : OneSeat N C H G) → get_elem? rs p ≡ some r
+    pub seat_here : (rs : List (HeldRecorder N C H G)) → All (Knows board) rs → (p : ℕ) (r : HeldRecorder N C H G) (s : OneSeat N
+        C H G) → get_elem? rs p ≡ some r
         → seat_of r ≡ Some s → get_elem? (seats_on board rs) p ≡ some s
     seat_here [] all p r s at is = absurd (some-ne-none r (sym at))
     seat_here (q ∷ rs) all zero r s at is =

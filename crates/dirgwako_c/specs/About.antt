@@ -16,8 +16,8 @@ abbrev pub TellsRefusal : Option (List ℕ) → (answer : ℕ) → (had has : Li
 TellsRefusal None answer had has had_len has_len = (answer ≡ 40) × (has ≡ had) × (has_len ≡ had_len)
 TellsRefusal (Some says) answer had has had_len has_len = IsHandedOver says answer had has has_len
 
--- the list has as many bounds as it had room for, by this rule; or numbers by this rule are none, of which one is the first bad one (10), and it
--- is as it was
+-- the list has as many bounds as it had room for, by this rule; or numbers by this rule are none, of which one is the first bad
+-- one (10), and it is as it was
 abbrev pub FillsBounds : (at : ℕ → ℕ) → (answer : ℕ) → (had has : List ℕ) → Type 0
 FillsBounds at answer had has = ((answer ≡ 0) × AreBounds has × (has ≡ bounds_by at (length had)))
     ⊎ ((answer ≡ 10) × ((bad : ℕ) × FirstBadBound (bounds_by at (length had)) bad) × (has ≡ had))

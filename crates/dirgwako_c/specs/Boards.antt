@@ -9,10 +9,12 @@ use Rattle.dirgwako_c.specs.Registries.{owner_in, page_in, SparesStay, TellsNobo
 use Rattle.dirgwako_c.specs.declared.held.HeldRegistry.{HeldRegistry}
 
 module _ {N C H G : ℕ} where
-  -- a board came, behind the others, each scraper was told of it, and its number was told; or none came, for this reason, and nothing has changed
+  -- a board came, behind the others, each scraper was told of it, and its number was told; or none came, for this reason, and
+  -- nothing has changed
   abbrev pub AddsBoard : (answer : ℕ) → (before after : HeldRegistry N C H G) → (had has : ℕ) → Type 0
   AddsBoard answer before after had has = SparesStay before after
-      × (((answer ≡ 0) × IsGrown (owner_in before) (owner_in after) × HasToldBoard (owner_in before) (owner_in after) × (has ≡ length (page_in before).boards))
+      × (((answer ≡ 0) × IsGrown (owner_in before) (owner_in after) × HasToldBoard (owner_in before) (owner_in after) × (has ≡
+      length (page_in before).boards))
       ⊎ ((why : NoBoard) × (answer ≡ no_board_number why)
       × IsNoBoard N C H G (length (page_in before).boards) why
       × IsUnchanged (owner_in before) (owner_in after) × TellsNobody (owner_in before) (owner_in after) × (has ≡ had)))

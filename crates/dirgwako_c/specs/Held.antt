@@ -18,7 +18,8 @@ answer_of number_of (Err fault) = number_of fault
 
 -- a call by a handle: an empty one is refused by 34, stays empty, and nothing else has changed; of another one what it holds is
 -- held on, and this became of it
-abbrev pub Calls : {A : Type 0} → (untouched : Type 0) → (became : A → A → Type 0) → (answer : ℕ) → (before after : Option A) → Type 0
+abbrev pub Calls : {A : Type 0} → (untouched : Type 0) → (became : A → A → Type 0) → (answer : ℕ) → (before after : Option A) →
+    Type 0
 Calls untouched became answer None None = (answer ≡ 34) × untouched
 Calls untouched became answer None (Some after) = ⊥
 Calls untouched became answer (Some before) None = ⊥

@@ -41,7 +41,8 @@ module _ {N C H G : ℕ} where
     AsksScrape (Ok done) = (scrape : Scraped) × ScrapesAlone before after (Ok scrape)
     AsksScrape (Err why) = ScrapesAlone before after (Err why)
 
-    -- the numbers of the newest scrape that is kept were handed over; or there is none, and the buffer and the length are as they were
+    -- the numbers of the newest scrape that is kept were handed over; or there is none, and the buffer and the length are as they
+    -- were
     abbrev pub ReadsNewest : (answer : ℕ) → (had has : List ℕ) → (had_len has_len : ℕ) → Result (Unit {0}) NoScrape → Type 0
     ReadsNewest answer had has had_len has_len (Ok done) = (moment : Answer) × (after.state.last ≡ Some moment)
         × IsHandedOver (numbers_of after.id moment) answer had has has_len
@@ -54,21 +55,24 @@ module _ {N C H G : ℕ} where
       pub reads : ReadsNewest answer had has had_len has_len made
 
   -- the board of this number did this, nothing else of the page has changed, and no scraper was told anything
-  pub record BoardDid (number : ℕ) (before after : HeldRegistry N C H G) (Did : Board N C H G → Board N C H G → Type 0) : Type 0 where
-    pub old : Board N C H G
-    pub new : Board N C H G
-    pub at : slice_get (page_in before).boards number ≡ Some old
-    pub page : PageDid (owner_in before) (owner_in after) (λ a b. b ≡ record a { boards = slice_set a.boards number new })
-    pub untold : TellsNobody (owner_in before) (owner_in after)
-    pub did : Did old new
+  pub record BoardDid (number : ℕ) (before after : HeldRegistry N C H G) (Did : Board N C H G → Board N C H G → Type 0) : Type 0
+    where
+      pub old : Board N C H G
+      pub new : Board N C H G
+      pub at : slice_get (page_in before).boards number ≡ Some old
+      pub page : PageDid (owner_in before) (owner_in after) (λ a b. b ≡ record a { boards = slice_set a.boards number new })
+      pub untold : TellsNobody (owner_in before) (owner_in after)
+      pub did : Did old new
 
   -- no board has this number (42), and the page is as it was
   abbrev pub HasNoBoard : (number answer : ℕ) → (before after : HeldRegistry N C H G) → Type 0
-  HasNoBoard number answer before after = (length (page_in before).boards ≤ number) × (answer ≡ 42) × (grouped_in after ≡ grouped_in before)
+  HasNoBoard number answer before after = (length (page_in before).boards ≤ number) × (answer ≡ 42) × (grouped_in after ≡
+      grouped_in before)
 
-  -- a scrape of the board of this number alone was made, and its numbers were handed over, or there is none; or no board has this number, and the
-  -- buffer and the length are as they were
-  abbrev pub Reads : (number answer : ℕ) → (before after : HeldRegistry N C H G) → (had has : List ℕ) → (had_len has_len : ℕ) → Type 0
+  -- a scrape of the board of this number alone was made, and its numbers were handed over, or there is none; or no board has this
+  -- number, and the buffer and the length are as they were
+  abbrev pub Reads : (number answer : ℕ) → (before after : HeldRegistry N C H G) → (had has : List ℕ) → (had_len has_len : ℕ) →
+      Type 0
   Reads number answer before after had has had_len has_len = SparesStay before after
       × (BoardDid number before after (λ old new. ReadsBoard old new answer had has had_len has_len)
       ⊎ (HasNoBoard number answer before after × (has ≡ had) × (has_len ≡ had_len)))
@@ -80,17 +84,18 @@ module _ {N C H G : ℕ} where
       (λ (board : Board N C H G). has ≡ length (scrapes board.journal)))
       ⊎ (HasNoBoard number answer before after × (has ≡ had)))
 
-  -- the numbers of the kept scrape of this place, of this board, were handed over; or there is none (40), and the buffer and the length are as they
-  -- were
+  -- the numbers of the kept scrape of this place, of this board, were handed over; or there is none (40), and the buffer and the
+  -- length are as they were
   abbrev pub ReadsAt : (board : Board N C H G) → (place answer : ℕ) → (had has : List ℕ) → (had_len has_len : ℕ) → Type 0
   ReadsAt board place answer had has had_len has_len =
       ((length (scrapes board.journal) ≤ place) × (answer ≡ 40) × (has ≡ had) × (has_len ≡ had_len))
       ⊎ ((moment : Answer) × (slice_get (scrapes board.journal) place ≡ Some moment)
       × IsHandedOver (numbers_of board.id moment) answer had has has_len)
 
-  -- what is held is as it was, and the numbers of the kept scrape of this place, of the board of this number, were handed over, or there is none; or
-  -- no board has this number
-  abbrev pub ReadsKept : (number place answer : ℕ) → (before after : HeldRegistry N C H G) → (had has : List ℕ) → (had_len has_len : ℕ) → Type 0
+  -- what is held is as it was, and the numbers of the kept scrape of this place, of the board of this number, were handed over,
+  -- or there is none; or no board has this number
+  abbrev pub ReadsKept : (number place answer : ℕ) → (before after : HeldRegistry N C H G) → (had has : List ℕ) → (had_len has_len
+      : ℕ) → Type 0
   ReadsKept number place answer before after had has had_len has_len = SparesStay before after
       × (((grouped_in after ≡ grouped_in before) × IsSomeAnd (slice_get (page_in before).boards number)
       (λ (board : Board N C H G). ReadsAt board place answer had has had_len has_len))

@@ -10,13 +10,14 @@ use Rattle.snapshot_update.specs.declared.faults.CountFault.{CountFault}
 use Rattle.dirgwako_c.specs.Held.{answer_of}
 
 module _ {N C H G : ℕ} where
-  -- the recorder is of the same page: its first board has the same id, and its workers of boards that come are given by the same ring
+  -- the recorder is of the same page: its first board has the same id, and its workers of boards that come are given by the same
+  -- ring
   abbrev pub IsSamePage : (before after : PageRecorder N C H G) → Type 0
   IsSamePage before after = (first_of after ≡ first_of before) × SameConsumer (feed_of before) (feed_of after)
 
-  -- The recorder is of the same page. It did this, and the answer is 0, or the number of its refusal: it has published this one operation, by a
-  -- handle of the board of this id, as one version of that board; or it has refused it for that reason, and no number has changed. Boards that
-  -- came may have been met. No refusal's number is 0
+  -- The recorder is of the same page. It did this, and the answer is 0, or the number of its refusal: it has published this one
+  -- operation, by a handle of the board of this id, as one version of that board; or it has refused it for that reason, and no
+  -- number has changed. Boards that came may have been met. No refusal's number is 0
   pub record Counts (id : ℕ) (op : Op) (answer : ℕ) (before after : PageRecorder N C H G) : Type 0 where
     pub page : IsSamePage before after
     pub did : Result (Unit {0}) CountFault

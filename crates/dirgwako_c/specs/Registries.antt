@@ -1,5 +1,6 @@
 -- What the calls of C by a registry's handle come to.
-use Rattle.std.specs.Prelude.{Bool, true, false, ◌≡◌, ◌≢◌, ◌⊎◌, ℕ, ◌+◌, ◌*◌, ◌<◌, ◌≤◌, List, [], ◌∷◌, ◌++◌, map, length, drop, All, Option, Some, None, Result, Ok, Err, IfOk, OnErr, IsSomeAnd, IsUtf8, Box}
+use Rattle.std.specs.Prelude.{Bool, true, false, ◌≡◌, ◌≢◌, ◌⊎◌, ℕ, ◌+◌, ◌*◌, ◌<◌, ◌≤◌, List, [], ◌∷◌, ◌++◌, map, length}
+use Rattle.std.specs.Prelude.{drop, All, Option, Some, None, Result, Ok, Err, IfOk, OnErr, IsSomeAnd, IsUtf8, Box}
 use Rattle.std.specs.Borrow.{Bor}
 use Rattle.std.specs.declared.alloc.Global.{Global}
 use Rattle.dirgwako.specs.Paged.{RegistersOnPage, GivesOnPage}
@@ -94,17 +95,18 @@ module _ {N C H G : ℕ} where
   abbrev pub TellsNobody : (before after : Owner N C H G) → Type 0
   TellsNobody before after = news_of after ≡ news_of before
 
-  -- A page of this id, of one board on which nothing is registered and nothing was counted; its recorders are there, one of each worker, in order,
-  -- and so many scrapers, and nobody has them
+  -- A page of this id, of one board on which nothing is registered and nothing was counted; its recorders are there, one of each
+  -- worker, in order, and so many scrapers, and nobody has them
   abbrev pub IsNew : (id window scrapers : ℕ) → HeldRegistry N C H G → Type 0
   IsNew id window scrapers held = IsOpened (128 * id) window (owner_in held) (map recorder_in (spare_in held))
       × AreAppointed scrapers (owner_in held) (map scraper_in (scrapers_in held))
 
--- why there is none: 31 the window is none; else 6, there was no memory, or 13, the library was built for numbers out of range, or a board has not
--- as many readers
+-- why there is none: 31 the window is none; else 6, there was no memory, or 13, the library was built for numbers out of range,
+-- or a board has not as many readers
 abbrev pub IsNewAnswer : (N C H G : ℕ) → (window scrapers answer : ℕ) → Type 0
 IsNewAnswer N C H G window scrapers answer = (¬ (IsWindow window) × (answer ≡ 31))
-    ⊎ (IsWindow window × (((answer ≡ 6) × IsBoardSize N C H G (1 + scrapers)) ⊎ ((answer ≡ 13) × ¬ (IsBoardSize N C H G (1 + scrapers)))))
+    ⊎ (IsWindow window × (((answer ≡ 6) × IsBoardSize N C H G (1 + scrapers)) ⊎ ((answer ≡ 13) × ¬ (IsBoardSize N C H G (1 +
+    scrapers)))))
 
 -- the kind of family that is asked for, and its bounds: only a histogram has any
 abbrev pub shape_of : Asked → Kind × List ℕ
@@ -116,8 +118,8 @@ shape_of (asked.Histogram bounds) = (Kinds.Histogram, bounds.now)
 abbrev pub said_of : Asked → (name help : List ℕ) → (labels : List (Bor (List ℕ))) → (digits : ℕ) → Descriptor
 said_of kind name help labels digits = shifted_family_of (shape_of kind).0 name help labels (shape_of kind).1 digits
 
--- the number of each reason for which there is no metric without labels: 48 where its family is registered from now on and its child is not made,
--- for want of a slot or of memory
+-- the number of each reason for which there is no metric without labels: 48 where its family is registered from now on and its
+-- child is not made, for want of a slot or of memory
 abbrev pub metric_answer : MetricRefusal → ℕ
 metric_answer (metric.Family fault) = family_refusal_number fault
 metric_answer (metric.Child id fault) = 48
@@ -131,29 +133,35 @@ module _ {N C H G : ℕ} where
   -- the last spare recorder was handed out; or there is none (35)
   abbrev pub HandsOut : (answer : ℕ) → (before after : HeldRegistry N C H G) → (had has : Option (HeldRecorder N C H G)) → Type 0
   HandsOut answer before after had has = (grouped_in after ≡ grouped_in before) × (scrapers_in after ≡ scrapers_in before)
-      × (((answer ≡ 0) × ((recorder : HeldRecorder N C H G) × (has ≡ Some recorder) × (spare_in before ≡ spare_in after ++ recorder ∷ [])))
+      × (((answer ≡ 0) × ((recorder : HeldRecorder N C H G) × (has ≡ Some recorder) × (spare_in before ≡ spare_in after ++
+      recorder ∷ [])))
       ⊎ ((answer ≡ 35) × (spare_in before ≡ []) × (spare_in after ≡ []) × (has ≡ had)))
 
   -- the last spare scraper was handed out; or there is none (49)
-  abbrev pub HandsOutScraper : (answer : ℕ) → (before after : HeldRegistry N C H G) → (had has : Option (HeldScraper N C H G)) → Type 0
+  abbrev pub HandsOutScraper : (answer : ℕ) → (before after : HeldRegistry N C H G) → (had has : Option (HeldScraper N C H G)) →
+      Type 0
   HandsOutScraper answer before after had has = (grouped_in after ≡ grouped_in before) × (spare_in after ≡ spare_in before)
-      × (((answer ≡ 0) × ((scraper : HeldScraper N C H G) × (has ≡ Some scraper) × (scrapers_in before ≡ scrapers_in after ++ scraper ∷ [])))
+      × (((answer ≡ 0) × ((scraper : HeldScraper N C H G) × (has ≡ Some scraper) × (scrapers_in before ≡ scrapers_in after ++
+      scraper ∷ [])))
       ⊎ ((answer ≡ 49) × (scrapers_in before ≡ []) × (scrapers_in after ≡ []) × (has ≡ had)))
 
-  -- A recorder was taken back, behind the spare ones. Or it is of a page of another first board, or one of each worker is spare already (16); or
-  -- there is none (34): nothing has changed then
+  -- A recorder was taken back, behind the spare ones. Or it is of a page of another first board, or one of each worker is spare
+  -- already (16); or there is none (34): nothing has changed then
   abbrev pub TakesBack : (answer : ℕ) → (before after : HeldRegistry N C H G) → (had has : Option (HeldRecorder N C H G)) → Type 0
   TakesBack answer before after None has = (answer ≡ 34) × (has ≡ None) × (grouped_in after ≡ grouped_in before)
       × SparesStay before after
-  TakesBack answer before after (Some recorder) has = (grouped_in after ≡ grouped_in before) × (scrapers_in after ≡ scrapers_in before)
+  TakesBack answer before after (Some recorder) has = (grouped_in after ≡ grouped_in before) × (scrapers_in after ≡ scrapers_in
+      before)
       × (((answer ≡ 0) × (has ≡ None) × (spare_in after ≡ spare_in before ++ recorder ∷ [])
       × (first_board_of (recorder_in recorder) ≡ first_of (owner_in before)))
       ⊎ ((answer ≡ 16) × (has ≡ Some recorder) × (spare_in after ≡ spare_in before)
       × ((first_board_of (recorder_in recorder) ≢ first_of (owner_in before)) ⊎ (N ≤ length (spare_in before)))))
 
-  -- each board keeps so many scrapes from now on, the newest ones, and so does each that comes; or the window is none (31), and nothing has changed
+  -- each board keeps so many scrapes from now on, the newest ones, and so does each that comes; or the window is none (31), and
+  -- nothing has changed
   abbrev pub SetsWindow : (window answer : ℕ) → (before after : Owner N C H G) → Type 0
-  SetsWindow window answer before after = TellsNobody before after × ((IsWindow window × (answer ≡ 0) × KeepsFromNow window before after)
+  SetsWindow window answer before after = TellsNobody before after × ((IsWindow window × (answer ≡ 0) × KeepsFromNow window before
+      after)
       ⊎ (¬ (IsWindow window) × (answer ≡ 31) × IsUnchanged before after))
 
   -- one scrape of the page that a handle holds, and its answer
@@ -173,8 +181,8 @@ module _ {N C H G : ℕ} where
   AsksMetricAt = AsksMetric (λ page. first_of page.crew) RegistersOnPage GivesOnPage
 
   module _ {A : Type 0} (handle_of : A → Handle) (answer : ℕ) (before after : Grouped N C H G) (had has : A) where
-    -- A metric without labels was asked for, of this descriptor, in the group 0: this was done, and the answer is 0, or the number of its refusal,
-    -- and then what C has is as it was. No refusal's number is 0
+    -- A metric without labels was asked for, of this descriptor, in the group 0: this was done, and the answer is 0, or the
+    -- number of its refusal, and then what C has is as it was. No refusal's number is 0
     pub record MakesMetric (desc : Descriptor) : Type 0 where
       pub made : Result Handle MetricRefusal
       pub asks : AsksMetricAt (in_group 0 before) after desc made
@@ -192,7 +200,8 @@ module _ {N C H G : ℕ} where
   AsksFamilyAt = AsksFamily RegistersOnPage
 
   -- what is done and answered where a child is asked for
-  abbrev pub AsksChildAt : (before after : Grouped N C H G) → (registry : ℕ) → FamilyId → (values : List (List ℕ)) → Kind → Result Handle ChildRefusal
+  abbrev pub AsksChildAt : (before after : Grouped N C H G) → (registry : ℕ) → FamilyId → (values : List (List ℕ)) → Kind → Result
+      Handle ChildRefusal
       → Type 0
   AsksChildAt = AsksChild (λ page. first_of page.crew) GivesOnPage
 
@@ -201,8 +210,8 @@ module _ {N C H G : ℕ} where
     abbrev pub IsNoList : (texts : List (List ℕ)) → Type 0
     IsNoList texts = ((answer ≡ 6) ⊎ ((answer ≡ 36) × ¬ (All IsUtf8 texts))) × (after ≡ before) × (has ≡ had)
 
-    -- A family was asked for, of this descriptor, in this group: this was done, and the answer is 0, or the number of its refusal, and then what
-    -- C has is as it was. No refusal's number is 0
+    -- A family was asked for, of this descriptor, in this group: this was done, and the answer is 0, or the number of its
+    -- refusal, and then what C has is as it was. No refusal's number is 0
     pub record MakesFamily (group : ℕ) (id_of : A → FamilyId) (registry_of : A → ℕ) (desc : Descriptor) : Type 0 where
       pub made : Result FamilyId FamilyRefusal
       pub asks : AsksFamilyAt (in_group group before) after desc made
@@ -211,7 +220,8 @@ module _ {N C H G : ℕ} where
       pub kept : OnErr made (has ≡ had)
 
     -- the same, by bytes; where some are not UTF-8 that is refused by 36, and nothing has changed
-    abbrev pub MakesFamilyBy : (group : ℕ) (id_of : A → FamilyId) (registry_of : A → ℕ) → (name help : List ℕ) (labels : List (List ℕ))
+    abbrev pub MakesFamilyBy : (group : ℕ) (id_of : A → FamilyId) (registry_of : A → ℕ) → (name help : List ℕ) (labels : List
+        (List ℕ))
         → Descriptor → Type 0
     MakesFamilyBy group id_of registry_of name help labels desc =
         ((¬ (IsUtf8 name) ⊎ ¬ (IsUtf8 help)) × (answer ≡ 36) × (after ≡ before) × (has ≡ had))
@@ -222,43 +232,48 @@ module _ {N C H G : ℕ} where
     abbrev pub MakesShifted : (digits : ℕ) → (made : Type 0) → Type 0
     MakesShifted digits made = ((digits ≤ 9) × made) ⊎ ((9 < digits) × (answer ≡ 43) × (after ≡ before) × (has ≡ had))
 
-    -- A child of a family was asked for, by these label values: this was done, and the answer is 0, or the number of its refusal, and then what C
-    -- has is as it was. No refusal's number is 0
-    pub record GivesChild (handle_of : A → Handle) (registry : ℕ) (id : FamilyId) (values : List (List ℕ)) (kind : Kind) : Type 0 where
-      pub given : Result Handle ChildRefusal
-      pub asks : AsksChildAt before after registry id values kind given
-      pub answer_is : answer ≡ answer_of child_refusal_number given
-      pub told : IfOk given (λ handle. handle ≡ handle_of has)
-      pub kept : OnErr given (has ≡ had)
+    -- A child of a family was asked for, by these label values: this was done, and the answer is 0, or the number of its refusal,
+    -- and then what C has is as it was. No refusal's number is 0
+    pub record GivesChild (handle_of : A → Handle) (registry : ℕ) (id : FamilyId) (values : List (List ℕ)) (kind : Kind) : Type 0
+      where
+        pub given : Result Handle ChildRefusal
+        pub asks : AsksChildAt before after registry id values kind given
+        pub answer_is : answer ≡ answer_of child_refusal_number given
+        pub told : IfOk given (λ handle. handle ≡ handle_of has)
+        pub kept : OnErr given (has ≡ had)
 
     -- the same, by bytes
-    abbrev pub GivesChildBy : (handle_of : A → Handle) (registry : ℕ) (id : FamilyId) (values : List (List ℕ)) (kind : Kind) → Type 0
+    abbrev pub GivesChildBy : (handle_of : A → Handle) (registry : ℕ) (id : FamilyId) (values : List (List ℕ)) (kind : Kind) →
+        Type 0
     GivesChildBy handle_of registry id values kind = IsNoList values
         ⊎ (All IsUtf8 values × GivesChild handle_of registry id values kind)
 
--- The buffer begins with these bytes, behind which it is as it was, and so many they are; or it is too short for them (37), and is as it was
+-- The buffer begins with these bytes, behind which it is as it was, and so many they are; or it is too short for them (37), and
+-- is as it was
 abbrev pub IsHandedOver : (bytes : List ℕ) → (answer : ℕ) → (had has : List ℕ) → (has_len : ℕ) → Type 0
 IsHandedOver bytes answer had has has_len = (has_len ≡ length bytes)
     × (((answer ≡ 0) × (has ≡ bytes ++ drop (length bytes) had)) ⊎ ((answer ≡ 37) × (length had < length bytes) × (has ≡ had)))
 
 module _ {S : Type 0} (gave : S → S → Result Scraped NoScrape → Type 0) (answer : ℕ) (before after : S) (had has : List ℕ)
     (had_len has_len : ℕ) where
-  -- the text of a scrape that the source gave was handed over; or there is no scrape or no memory for its text, and the buffer and the length
-  -- are as they were
+  -- the text of a scrape that the source gave was handed over; or there is no scrape or no memory for its text, and the buffer
+  -- and the length are as they were
   abbrev pub PrintsTo : Type 0
   PrintsTo = ((bytes : List ℕ) × IsText gave 0 before after bytes × IsHandedOver bytes answer had has has_len)
       ⊎ ((fault : TextFault) × (answer ≡ text_fault_number fault) × IsTextFault gave 0 before after fault × (has ≡ had)
       × (has_len ≡ had_len))
 
 -- what became of a reply that was written whole, or why there is none: then the buffer and the length are as they were
-abbrev pub IsReplied : (bytes : List ℕ) → (answer : ℕ) → (had has : List ℕ) → (had_len has_len : ℕ) → Result Served WireFault → Type 0
+abbrev pub IsReplied : (bytes : List ℕ) → (answer : ℕ) → (had has : List ℕ) → (had_len has_len : ℕ) → Result Served WireFault →
+    Type 0
 IsReplied bytes answer had has had_len has_len (Ok served) = IsHandedOver bytes answer had has has_len
-IsReplied bytes answer had has had_len has_len (Err fault) = (answer ≡ wire_fault_number fault) × (has ≡ had) × (has_len ≡ had_len)
+IsReplied bytes answer had has had_len has_len (Err fault) = (answer ≡ wire_fault_number fault) × (has ≡ had) × (has_len ≡
+    had_len)
 
 module _ {S : Type 0} (gave : S → S → Result Scraped NoScrape → Type 0) (request : List ℕ) (answer : ℕ) (before after : S)
     (had has : List ℕ) (had_len has_len : ℕ) where
-  -- The reply to what the request's bytes ask for was written and handed over, as a server gives it: a 200 is the text of a scrape that this
-  -- source gave. Where a read failed, which bytes do not, nothing was written
+  -- The reply to what the request's bytes ask for was written and handed over, as a server gives it: a 200 is the text of a
+  -- scrape that this source gave. Where a read failed, which bytes do not, nothing was written
   pub record Replies : Type 0 where
     pub rest : List ℕ
     pub bytes : List ℕ

@@ -1,5 +1,6 @@
 -- Exact totals of the recorders that nobody has.
-use Rattle.std.specs.Prelude.{◌≡◌, ◌⊎◌, ℕ, ◌<◌, ◌≤◌, List, [], ◌∷◌, ◌++◌, map, flat_map, length, slice_get, Option, Some, None, IsSomeAnd, All}
+use Rattle.std.specs.Prelude.{◌≡◌, ◌⊎◌, ℕ, ◌<◌, ◌≤◌, List, [], ◌∷◌, ◌++◌, map, flat_map, length, slice_get, Option, Some}
+use Rattle.std.specs.Prelude.{None, IsSomeAnd, All}
 use mathlib.Core.Option.{some}
 use lib.ListN.{get_elem?}
 use Rattle.chain_law.specs.Settled.{HasIndex, IsMissing, IsSettled, made_all}
@@ -34,7 +35,8 @@ module _ {N C H G : ℕ} where
 
   -- what these recorders count with on the board of this number, in order, where they know it
   abbrev pub seats_on : (board : ℕ) → List (HeldRecorder N C H G) → List (OneSeat N C H G)
-  seats_on board recorders = flat_map (λ (r : HeldRecorder N C H G). alone (slice_get (recorders_of (recorder_in r)) board)) recorders
+  seats_on board recorders = flat_map (λ (r : HeldRecorder N C H G). alone (slice_get (recorders_of (recorder_in r)) board))
+      recorders
 
   -- a recorder knows the board of this number
   abbrev pub Knows : (board : ℕ) → HeldRecorder N C H G → Type 0
@@ -96,9 +98,9 @@ module _ {N C H G : ℕ} where
     pub wide : length taken.totals ≡ width C H G
     pub settled : IsSettled workers taken
 
-  -- The numbers of all that these recorders have published on the board of this number were handed over, as those of a moment of it, and they are
-  -- the recorders of all workers. Or each is there once at most, and worker `missing` is the least whose recorder is not (18); or two are of one
-  -- worker, or one knows no board of this number (16): then the rest is as it was
+  -- The numbers of all that these recorders have published on the board of this number were handed over, as those of a moment of
+  -- it, and they are the recorders of all workers. Or each is there once at most, and worker `missing` is the least whose
+  -- recorder is not (18); or two are of one worker, or one knows no board of this number (16): then the rest is as it was
   abbrev pub SettlesBoard : (number : ℕ) → Board N C H G → List (HeldRecorder N C H G) → (answer : ℕ) → (had has : List ℕ)
       → (had_len has_len had_missing has_missing : ℕ) → Type 0
   SettlesBoard number board spare answer had has had_len has_len had_missing has_missing =
@@ -106,15 +108,17 @@ module _ {N C H G : ℕ} where
       × IsHandedOver (numbers_of board.id (as_answer taken)) answer had has has_len × (has_missing ≡ had_missing)))
       ⊎ ((All (Knows number) spare × (answer ≡ 18) × AreOnce (workers_of (seats_on number spare))
       × IsMissing (workers_of (seats_on number spare)) has_missing × (has ≡ had) × (has_len ≡ had_len))
-      ⊎ ((answer ≡ 16) × (IsTwice (workers_of (seats_on number spare)) ⊎ HasStranger number spare) × (has ≡ had) × (has_len ≡ had_len)
+      ⊎ ((answer ≡ 16) × (IsTwice (workers_of (seats_on number spare)) ⊎ HasStranger number spare) × (has ≡ had) × (has_len ≡
+      had_len)
       × (has_missing ≡ had_missing)))
 
-  -- the page is as it was, each spare recorder has met boards that came, and the board of this number was settled; or no board has it, and nothing
-  -- has changed
+  -- the page is as it was, each spare recorder has met boards that came, and the board of this number was settled; or no board
+  -- has it, and nothing has changed
   abbrev pub Settles : (number answer : ℕ) → (before after : HeldRegistry N C H G) → (had has : List ℕ)
       → (had_len has_len had_missing has_missing : ℕ) → Type 0
   Settles number answer before after had has had_len has_len had_missing has_missing =
-      ((grouped_in after ≡ grouped_in before) × (scrapers_in after ≡ scrapers_in before) × HaveMet (spare_in before) (spare_in after)
+      ((grouped_in after ≡ grouped_in before) × (scrapers_in after ≡ scrapers_in before) × HaveMet (spare_in before) (spare_in
+      after)
       × IsSomeAnd (slice_get (page_in before).boards number) (λ (board : Board N C H G).
       SettlesBoard number board (spare_in after) answer had has had_len has_len had_missing has_missing))
       ⊎ (HasNoBoard number answer before after × SparesStay before after × (has ≡ had) × (has_len ≡ had_len)

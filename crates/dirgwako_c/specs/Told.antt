@@ -15,8 +15,8 @@ many = 1 + WORKERS + width COUNTERS HISTOGRAMS GAUGES
 abbrev pub totals_in : List ℕ → List ℕ
 totals_in numbers = drop (1 + WORKERS) numbers
 
--- why they tell nothing of a handle, the first that is so: there are not as many as a moment has (41), they are of another board (16), or
--- there is no such slot (11)
+-- why they tell nothing of a handle, the first that is so: there are not as many as a moment has (41), they are of another board
+-- (16), or there is no such slot (11)
 abbrev pub TellsNothing : (numbers : List ℕ) (registry slot slots answer : ℕ) → Type 0
 TellsNothing numbers registry slot slots answer = ((answer ≡ 41) × (length numbers ≢ many))
     ⊎ ((length numbers ≡ many) × (((answer ≡ 16) × (slice_index numbers 0 ≢ registry))
@@ -44,7 +44,8 @@ TellsGauge numbers gauge answer had has = ((answer ≡ 0) × HaveSlot numbers ga
     × (has ≡ pos (slice_index (totals_in numbers) (place_of_gauge gauge.slot))
     -ℤ pos (slice_index (totals_in numbers) (place_of_gauge gauge.slot + 1))))
     ⊎ ((TellsNothing numbers gauge.registry gauge.slot GAUGES answer
-    ⊎ ((answer ≡ 41) × HaveSlot numbers gauge.registry gauge.slot GAUGES × ((9007199254740992 ≤ slice_index (totals_in numbers) (place_of_gauge gauge.slot))
+    ⊎ ((answer ≡ 41) × HaveSlot numbers gauge.registry gauge.slot GAUGES × ((9007199254740992 ≤ slice_index (totals_in numbers)
+    (place_of_gauge gauge.slot))
     ⊎ (9007199254740992 ≤ slice_index (totals_in numbers) (place_of_gauge gauge.slot + 1))))) × (has ≡ had))
 
 -- the place of a histogram's buckets among the totals; its sum and its count stand behind them

@@ -3,19 +3,20 @@ ghost use Rattle.std.specs.Prelude.{◌≡◌, ◌≢◌, ◌⊎◌, ◌≤◌, 
 ghost use Rattle.page_crew.specs.Held.{first_of as first_board_of};
 ghost use Rattle.page_crew.specs.Owned.{first_of};
 ghost use Rattle.dirgwako_c.specs.Held.{Calls, Frees};
-ghost use Rattle.dirgwako_c.specs.Registries.{grouped_in, owner_in, recorder_in, scrapers_in, spare_in, Opens, HandsOut, TakesBack};
+ghost use Rattle.dirgwako_c.specs.Registries.{grouped_in, owner_in, recorder_in, scrapers_in, spare_in, Opens, HandsOut};
+ghost use Rattle.dirgwako_c.specs.Registries.{TakesBack};
 
 use crate::handles::{RecorderHandle, RegistryHandle};
 use crate::held::{HeldRecorder, HeldRegistry};
 use crate::opening::open;
 use std::alloc::Global;
 
-/// A new registry of this id, over a page of one board, which keeps `window` scrapes of each board, with so many scrapers, into a registry's handle.
-/// What the handle held is freed. Registries of one program have different ids: `dirgwako_registry_new` of the header gives each its own. Its boards
-/// have the ids from 128 times its id on.
+/// A new registry of this id, over a page of one board, which keeps `window` scrapes of each board, with so many scrapers, into a
+/// registry's handle. What the handle held is freed. Registries of one program have different ids: `dirgwako_registry_new` of the
+/// header gives each its own. Its boards have the ids from 128 times its id on.
 ///
-/// Answers 31, unless `window` is 1 to 1,024; then 6, out of memory, and 13, there would be over 3 scrapers, or the library was built for numbers out of
-/// range.
+/// Answers 31, unless `window` is 1 to 1,024; then 6, out of memory, and 13, there would be over 3 scrapers, or the library was
+/// built for numbers out of range.
 #[unsafe(no_mangle)]
 pub extern "C" fn dirgwako_c_registry_new_with(
     alloc: Global,
@@ -102,7 +103,8 @@ fn take_back<const N: usize, const C: usize, const H: usize, const G: usize>(
         × (spare_in registry.new ≡ spare_in registry.old ++ given.entry.value ∷ [])) }
     ensures back { IfErr result (λ back. back ≡ given.entry) }
     ensures refused { OnErr result ((spare_in registry.new ≡ spare_in registry.old)
-        × ((first_board_of (recorder_in given.entry.value) ≢ first_of (owner_in registry.old)) ⊎ (N ≤ length (spare_in registry.old)))) }
+        × ((first_board_of (recorder_in given.entry.value) ≢ first_of (owner_in registry.old)) ⊎ (N ≤ length (spare_in
+        registry.old)))) }
 {
     if given.recorder.first() != registry.registrar.at.crew.first() {
         return Err(given);
@@ -110,7 +112,8 @@ fn take_back<const N: usize, const C: usize, const H: usize, const G: usize>(
     registry.spare.put(given)
 }
 
-/// Gives a recorder back to its registry, which may hand it out again, to whichever thread. Its handle is empty then. Takes no memory.
+/// Gives a recorder back to its registry, which may hand it out again, to whichever thread. Its handle is empty then. Takes no
+/// memory.
 ///
 /// Answers 34, one of the handles is empty; 16, the recorder is of another registry. Nothing has changed then.
 #[unsafe(no_mangle)]

@@ -48,7 +48,8 @@ impl Change {
     }
 }
 
-/// The operations of these changes, at the front of a list that has room for them, if each is by a handle of the board of this id, and of a kind.
+/// The operations of these changes, at the front of a list that has room for them, if each is by a handle of the board of this
+/// id, and of a kind.
 ///
 /// # Errors
 ///

@@ -6,7 +6,8 @@ ghost use Rattle.metric_desc.specs.declared.kind.Kind.TheVariants as Kinds;
 ghost use Rattle.page_crew.specs.Owned.{first_of};
 ghost use Rattle.registry_state.specs.declared.handle.Handle.TheVariants as Handles;
 ghost use Rattle.dirgwako_c.specs.Held.{Calls};
-ghost use Rattle.dirgwako_c.specs.Registries.{grouped_in, said_of, AsksFamilyAt, SparesStay, MakesFamilyBy, MakesShifted, GivesChildBy};
+ghost use Rattle.dirgwako_c.specs.Registries.{grouped_in, said_of, AsksFamilyAt, SparesStay, MakesFamilyBy, MakesShifted};
+ghost use Rattle.dirgwako_c.specs.Registries.{GivesChildBy};
 
 use crate::family::{Asked, CounterFamily, Family, GaugeFamily, HistogramFamily};
 use crate::handles::RegistryHandle;
@@ -170,7 +171,8 @@ fn counter_of_in<const N: usize, const C: usize, const H: usize, const G: usize>
     values: &[&[u8]],
     counter: &mut Counter,
 ) -> u32
-    ensures { GivesChildBy result registrar.old.at registrar.new.at counter.old counter.new Handles.Counter family.now.registry family.now.id
+    ensures { GivesChildBy result registrar.old.at registrar.new.at counter.old counter.new Handles.Counter family.now.registry
+        family.now.id
         (texts_of values.now) Kinds.Counter }
 {
     let values = match texts(alloc, values) {
@@ -189,9 +191,9 @@ fn counter_of_in<const N: usize, const C: usize, const H: usize, const G: usize>
 
 /// The counter of these label values, which is made where there is none.
 ///
-/// Answers 34, the handle is empty; 36, a text is not UTF-8; 20, the family is of another registry; 3 of a value; 21, 46, 22, 6, 28 as
-/// [`dirgwako::Registrar::counter_of`]. What C has is as it was then, and nothing else has
-/// changed, unless by 28, which two registries of one id alone bring about, the child was made.
+/// Answers 34, the handle is empty; 36, a text is not UTF-8; 20, the family is of another registry; 3 of a value; 21, 46, 22, 6,
+/// 28 as [`dirgwako::Registrar::counter_of`]. What C has is as it was then, and nothing else has changed, unless by 28, which two
+/// registries of one id alone bring about, the child was made.
 #[unsafe(no_mangle)]
 pub extern "C" fn dirgwako_c_counter_of(
     alloc: Global,
@@ -255,7 +257,8 @@ fn gauge_of_in<const N: usize, const C: usize, const H: usize, const G: usize>(
     values: &[&[u8]],
     gauge: &mut Gauge,
 ) -> u32
-    ensures { GivesChildBy result registrar.old.at registrar.new.at gauge.old gauge.new Handles.Gauge family.now.registry family.now.id
+    ensures { GivesChildBy result registrar.old.at registrar.new.at gauge.old gauge.new Handles.Gauge family.now.registry
+        family.now.id
         (texts_of values.now) Kinds.Gauge }
 {
     let values = match texts(alloc, values) {
@@ -274,9 +277,9 @@ fn gauge_of_in<const N: usize, const C: usize, const H: usize, const G: usize>(
 
 /// The gauge of these label values, which is made where there is none.
 ///
-/// Answers 34, the handle is empty; 36, a text is not UTF-8; 20, the family is of another registry; 3 of a value; 21, 46, 22, 6, 28 as
-/// [`dirgwako::Registrar::gauge_of`]. What C has is as it was then, and nothing else has
-/// changed, unless by 28, which two registries of one id alone bring about, the child was made.
+/// Answers 34, the handle is empty; 36, a text is not UTF-8; 20, the family is of another registry; 3 of a value; 21, 46, 22, 6,
+/// 28 as [`dirgwako::Registrar::gauge_of`]. What C has is as it was then, and nothing else has changed, unless by 28, which two
+/// registries of one id alone bring about, the child was made.
 #[unsafe(no_mangle)]
 pub extern "C" fn dirgwako_c_gauge_of(
     alloc: Global,
@@ -300,8 +303,8 @@ pub extern "C" fn dirgwako_c_gauge_of(
 
 /// A family of histograms with labels with these bounds: at most 24, rising, none over 2^48 - 1.
 ///
-/// Answers 34, the handle is empty; 43, `digits` is over 9; 36, a text is not UTF-8; 1 to 5, 9, 7 of the texts; 8, 10 of the bounds; 19, 23, 6 as
-/// [`dirgwako::Registrar::histogram_family`]. Nothing has changed then.
+/// Answers 34, the handle is empty; 43, `digits` is over 9; 36, a text is not UTF-8; 1 to 5, 9, 7 of the texts; 8, 10 of the
+/// bounds; 19, 23, 6 as [`dirgwako::Registrar::histogram_family`]. Nothing has changed then.
 #[unsafe(no_mangle)]
 pub extern "C" fn dirgwako_c_histogram_family_new(
     alloc: Global,
@@ -318,7 +321,8 @@ pub extern "C" fn dirgwako_c_histogram_family_new(
         × MakesShifted result (grouped_in before) (grouped_in after) family.old family.new digits
         (MakesFamilyBy result (grouped_in before) (grouped_in after) family.old family.new group (λ family. family.id)
         (λ family. family.registry) name.now help.now (texts_of labels.now)
-        (shifted_family_of Kinds.Histogram name.now help.now labels.now bounds.now digits))) result registry.old.value registry.new.value }
+        (shifted_family_of Kinds.Histogram name.now help.now labels.now bounds.now digits))) result registry.old.value
+        registry.new.value }
 {
     family_new(
         alloc,
@@ -341,7 +345,8 @@ fn histogram_of_in<const N: usize, const C: usize, const H: usize, const G: usiz
     values: &[&[u8]],
     histogram: &mut Histogram,
 ) -> u32
-    ensures { GivesChildBy result registrar.old.at registrar.new.at histogram.old histogram.new Handles.Histogram family.now.registry family.now.id
+    ensures { GivesChildBy result registrar.old.at registrar.new.at histogram.old histogram.new Handles.Histogram
+        family.now.registry family.now.id
         (texts_of values.now) Kinds.Histogram }
 {
     let values = match texts(alloc, values) {
@@ -360,9 +365,9 @@ fn histogram_of_in<const N: usize, const C: usize, const H: usize, const G: usiz
 
 /// The histogram of these label values, which is made where there is none.
 ///
-/// Answers 34, the handle is empty; 36, a text is not UTF-8; 20, the family is of another registry; 3 of a value; 21, 46, 22, 6, 28 as
-/// [`dirgwako::Registrar::histogram_of`]. What C has is as it was then, and nothing else has
-/// changed, unless by 28, which two registries of one id alone bring about, the child was made.
+/// Answers 34, the handle is empty; 36, a text is not UTF-8; 20, the family is of another registry; 3 of a value; 21, 46, 22, 6,
+/// 28 as [`dirgwako::Registrar::histogram_of`]. What C has is as it was then, and nothing else has changed, unless by 28, which
+/// two registries of one id alone bring about, the child was made.
 #[unsafe(no_mangle)]
 pub extern "C" fn dirgwako_c_histogram_of(
     alloc: Global,

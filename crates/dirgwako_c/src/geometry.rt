@@ -1,5 +1,5 @@
-//! The geometry of the board, which is settled when the library is built: `bindings/c/build.sh` sets these four numbers, and proves the crate for
-//! them. Here no two of them are alike, so that no proof takes one for another.
+//! The geometry of the board, which is settled when the library is built: `bindings/c/build.sh` sets these four numbers, and
+//! proves the crate for them. Here no two of them are alike, so that no proof takes one for another.
 
 /// Threads that count, 1 to 32.
 pub const WORKERS: usize = 4;

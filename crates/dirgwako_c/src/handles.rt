@@ -25,13 +25,15 @@ use std::mem::replace;
 pub struct RegistryHandle {
     at: *mut u8,
     live: u64,
-    pub ghost value: { Option (HeldRegistry WORKERS COUNTERS HISTOGRAMS GAUGES) } by { coded_option (registry_row (number WORKERS) (number COUNTERS) (number HISTOGRAMS) (number GAUGES)).coded },
+    pub ghost value: { Option (HeldRegistry WORKERS COUNTERS HISTOGRAMS GAUGES) } by { coded_option (registry_row (number WORKERS)
+        (number COUNTERS) (number HISTOGRAMS) (number GAUGES)).coded },
     ghost empty: { live ≡ 0 → IsNone value },
     ghost full: { live ≢ 0 → IsSome value },
 }
 
 impl Model for RegistryHandle {
-    ghost also_owns = { λ h. holds (registry_row (number WORKERS) (number COUNTERS) (number HISTOGRAMS) (number GAUGES)) h.at h.value };
+    ghost also_owns = { λ h. holds (registry_row (number WORKERS) (number COUNTERS) (number HISTOGRAMS) (number GAUGES)) h.at
+        h.value };
 }
 
 // It may go to another thread, as what it holds may.
@@ -83,13 +85,15 @@ impl RegistryHandle {
 pub struct RecorderHandle {
     at: *mut u8,
     live: u64,
-    pub ghost value: { Option (HeldRecorder WORKERS COUNTERS HISTOGRAMS GAUGES) } by { coded_option (recorder_row (number WORKERS) (number COUNTERS) (number HISTOGRAMS) (number GAUGES)).coded },
+    pub ghost value: { Option (HeldRecorder WORKERS COUNTERS HISTOGRAMS GAUGES) } by { coded_option (recorder_row (number WORKERS)
+        (number COUNTERS) (number HISTOGRAMS) (number GAUGES)).coded },
     ghost empty: { live ≡ 0 → IsNone value },
     ghost full: { live ≢ 0 → IsSome value },
 }
 
 impl Model for RecorderHandle {
-    ghost also_owns = { λ h. holds (recorder_row (number WORKERS) (number COUNTERS) (number HISTOGRAMS) (number GAUGES)) h.at h.value };
+    ghost also_owns = { λ h. holds (recorder_row (number WORKERS) (number COUNTERS) (number HISTOGRAMS) (number GAUGES)) h.at
+        h.value };
 }
 
 // It may go to another thread, as what it holds may.
@@ -141,13 +145,15 @@ impl RecorderHandle {
 pub struct ScraperHandle {
     at: *mut u8,
     live: u64,
-    pub ghost value: { Option (HeldScraper WORKERS COUNTERS HISTOGRAMS GAUGES) } by { coded_option (scraper_row (number WORKERS) (number COUNTERS) (number HISTOGRAMS) (number GAUGES)).coded },
+    pub ghost value: { Option (HeldScraper WORKERS COUNTERS HISTOGRAMS GAUGES) } by { coded_option (scraper_row (number WORKERS)
+        (number COUNTERS) (number HISTOGRAMS) (number GAUGES)).coded },
     ghost empty: { live ≡ 0 → IsNone value },
     ghost full: { live ≢ 0 → IsSome value },
 }
 
 impl Model for ScraperHandle {
-    ghost also_owns = { λ h. holds (scraper_row (number WORKERS) (number COUNTERS) (number HISTOGRAMS) (number GAUGES)) h.at h.value };
+    ghost also_owns = { λ h. holds (scraper_row (number WORKERS) (number COUNTERS) (number HISTOGRAMS) (number GAUGES)) h.at
+        h.value };
 }
 
 // It may go to another thread, as what it holds may.

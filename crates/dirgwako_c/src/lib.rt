@@ -1,8 +1,8 @@
 //! Dirgwako for C: a page of boards of one geometry, which come when they are needed, and recorders that threads
 //! count with on all of them.
 //!
-//! What C holds is a handle of two words, zeros where it holds nothing. A call that needs what an empty handle has not is refused. Each call
-//! answers 0, or the number of a refusal (docs/REFUSALS.md); `dirgwako_c_place` alone a place.
+//! What C holds is a handle of two words, zeros where it holds nothing. A call that needs what an empty handle has not is
+//! refused. Each call answers 0, or the number of a refusal (docs/REFUSALS.md); `dirgwako_c_place` alone a place.
 #![tactic(auto)]
 
 mod about;

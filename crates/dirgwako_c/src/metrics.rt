@@ -48,8 +48,8 @@ fn counter_in<const N: usize, const C: usize, const H: usize, const G: usize>(
 /// A counter without labels: its family is registered in the group 0, and its one child made.
 ///
 /// Answers 34, the handle is empty; 36, a text is not UTF-8; 1, 2, 3, 5 of the name or the help; 19, 23, 6 as
-/// [`dirgwako::Registrar::counter`]; 48, its family is registered, and its child is not made, for want of a slot or of memory. What C has is as it was
-/// then.
+/// [`dirgwako::Registrar::counter`]; 48, its family is registered, and its child is not made, for want of a slot or of memory.
+/// What C has is as it was then.
 #[unsafe(no_mangle)]
 pub extern "C" fn dirgwako_c_counter_new(
     alloc: Global,

@@ -25,8 +25,8 @@ const LIMIT: u64 = 9_007_199_254_740_992;
 #[repr(C)]
 #[derive(Clone, Copy)]
 pub struct HistogramTotals {
-    /// How many values fell into each bucket, none of them cumulated: that of the bound at its place, and behind the last bound those that are
-    /// over it.
+    /// How many values fell into each bucket, none of them cumulated: that of the bound at its place, and behind the last bound
+    /// those that are over it.
     pub buckets: [u64; 25],
     /// The sum of the values.
     pub sum: u64,
@@ -65,7 +65,8 @@ pub(crate) fn hand_over_numbers<const N: usize, const C: usize, const H: usize, 
 
 /// The total of a counter, among numbers that were read.
 ///
-/// Answers 41, these are no numbers that a reading gave; 16, they are of another registry; 11, the board has no such slot. Nothing is told then.
+/// Answers 41, these are no numbers that a reading gave; 16, they are of another registry; 11, the board has no such slot.
+/// Nothing is told then.
 #[unsafe(no_mangle)]
 pub extern "C" fn dirgwako_c_counter_total(
     numbers: &[u64],

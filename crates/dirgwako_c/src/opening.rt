@@ -65,7 +65,8 @@ fn boxed_scrapers<const N: usize, const C: usize, const H: usize, const G: usize
 ///
 /// # Errors
 ///
-/// 31 unless `window` is 1 to 1,024; then 6, and 13 where the library was built for numbers out of range or there would be over 3 scrapers.
+/// 31 unless `window` is 1 to 1,024; then 6, and 13 where the library was built for numbers out of range or there would be over 3
+/// scrapers.
 pub(crate) fn open(
     alloc: Global,
     id: u32,

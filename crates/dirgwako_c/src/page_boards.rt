@@ -17,7 +17,8 @@ fn add<const N: usize, const C: usize, const H: usize, const G: usize>(
     owner: &mut PageCrew<N, C, H, G>,
     number: &mut usize,
 ) -> u32
-    ensures { ((result ≡ 0) × IsGrown owner.old owner.new × HasToldBoard owner.old owner.new × (number.new ≡ length (page_of owner.old).boards))
+    ensures { ((result ≡ 0) × IsGrown owner.old owner.new × HasToldBoard owner.old owner.new × (number.new ≡ length (page_of
+        owner.old).boards))
         ⊎ ((why : NoBoard) × (result ≡ no_board_number why)
         × IsNoBoard N C H G (length (page_of owner.old).boards) why
         × IsUnchanged owner.old owner.new × TellsNobody owner.old owner.new × (number.new ≡ number.old)) }
@@ -31,8 +32,8 @@ fn add<const N: usize, const C: usize, const H: usize, const G: usize>(
     }
 }
 
-/// Makes a further board behind the others, so that later calls have its memory already, and tells its number. Each recorder meets it at its next
-/// call by a handle of it.
+/// Makes a further board behind the others, so that later calls have its memory already, and tells its number. Each recorder
+/// meets it at its next call by a handle of it.
 ///
 /// Answers 34, the handle is empty; 44, 96 boards are there; 6, out of memory. Nothing has changed then.
 #[unsafe(no_mangle)]

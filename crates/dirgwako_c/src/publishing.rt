@@ -40,19 +40,21 @@ fn publish<const N: usize, const C: usize, const H: usize, const G: usize>(
     }
 }
 
-/// Publishes these changes as one version of their board, all of them or nothing: no scrape sees some of them alone. Where there is none,
-/// nothing is published.
+/// Publishes these changes as one version of their board, all of them or nothing: no scrape sees some of them alone. Where there
+/// is none, nothing is published.
 ///
-/// Answers 34, the handle is empty; 33, there are more than counters, histograms and twice the gauges; 47, two changes are by handles of two
-/// boards; 39, a change is of no kind; 16, their board is none of the recorder's page; 15, 11, 12 as [`dirgwako::PageRecorder::apply`]. Nothing
-/// has changed then, but that the recorder may have met boards that came. Takes no memory.
+/// Answers 34, the handle is empty; 33, there are more than counters, histograms and twice the gauges; 47, two changes are by
+/// handles of two boards; 39, a change is of no kind; 16, their board is none of the recorder's page; 15, 11, 12 as
+/// [`dirgwako::PageRecorder::apply`]. Nothing has changed then, but that the recorder may have met boards that came. Takes no
+/// memory.
 #[unsafe(no_mangle)]
 pub extern "C" fn dirgwako_c_publish(
     alloc: Global,
     recorder: &mut RecorderHandle,
     changes: &[Change],
 ) -> u32
-    ensures { Calls (Unit {0}) (λ before after. Publishes (COUNTERS + HISTOGRAMS + 2 * GAUGES) changes.now result before.recorder after.recorder) result
+    ensures { Calls (Unit {0}) (λ before after. Publishes (COUNTERS + HISTOGRAMS + 2 * GAUGES) changes.now result before.recorder
+        after.recorder) result
         recorder.old.value recorder.new.value }
 {
     let Some(mut held) = recorder.take(alloc) else {

@@ -53,11 +53,12 @@ fn read_to<const N: usize, const C: usize, const H: usize, const G: usize>(
     }
 }
 
-/// Makes a scrape of the board of this number alone, which it keeps, and reads its numbers, all at one moment: the board's id, how often each
-/// thread has published on it, and the totals. They stand at the front of the buffer, and `len` is how many they are.
+/// Makes a scrape of the board of this number alone, which it keeps, and reads its numbers, all at one moment: the board's id,
+/// how often each thread has published on it, and the totals. They stand at the front of the buffer, and `len` is how many they
+/// are.
 ///
-/// Answers 34, the handle is empty; 42, no board has this number; 14, four scans were given up, one after the other; 6, out of memory; 37, the
-/// buffer is too short: `len` tells how many numbers there are. The scrape is kept then as well.
+/// Answers 34, the handle is empty; 42, no board has this number; 14, four scans were given up, one after the other; 6, out of
+/// memory; 37, the buffer is too short: `len` tells how many numbers there are. The scrape is kept then as well.
 #[unsafe(no_mangle)]
 pub extern "C" fn dirgwako_c_read(
     alloc: Global,
@@ -66,7 +67,8 @@ pub extern "C" fn dirgwako_c_read(
     buffer: &mut [u64],
     len: &mut usize,
 ) -> u32
-    ensures { Calls ((buffer.new ≡ buffer.old) × (len.new ≡ len.old)) (λ before after. Reads board result before after buffer.old buffer.new
+    ensures { Calls ((buffer.new ≡ buffer.old) × (len.new ≡ len.old)) (λ before after. Reads board result before after buffer.old
+        buffer.new
         len.old len.new) result registry.old.value registry.new.value }
 {
     let Some(mut held) = registry.take(alloc) else {
@@ -154,8 +156,8 @@ fn read_kept_to<const N: usize, const C: usize, const H: usize, const G: usize>(
 
 /// Reads the numbers of a scrape that the board of this number keeps, counted from the oldest, which is 0. Takes no memory.
 ///
-/// Answers 34, the handle is empty; 42, no board has this number; 40, so many are not kept; 37, the buffer is too short: `len` tells how many
-/// numbers there are.
+/// Answers 34, the handle is empty; 42, no board has this number; 40, so many are not kept; 37, the buffer is too short: `len`
+/// tells how many numbers there are.
 #[unsafe(no_mangle)]
 pub extern "C" fn dirgwako_c_read_kept(
     alloc: Global,

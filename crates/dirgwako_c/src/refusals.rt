@@ -70,7 +70,8 @@ fn text_at<'a>(texts: &[&'a str], number: usize) -> Option<&'a str>
     Some(texts[number])
 }
 
-/// What a refusal says, in a few words of English, at the front of a buffer that has room for it; `len` is how many bytes they are.
+/// What a refusal says, in a few words of English, at the front of a buffer that has room for it; `len` is how many bytes they
+/// are.
 ///
 /// Answers 40, no refusal has this number; 37, the buffer is too short: `len` tells what is needed.
 #[unsafe(no_mangle)]

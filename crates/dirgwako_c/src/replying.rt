@@ -30,12 +30,13 @@ fn reply_to<S: ScrapeFrom>(
     }
 }
 
-/// The reply to a request of HTTP, which C has read whole: head and body, as [`dirgwako::serve_one`] writes them; a 200 is the text of a scrape.
-/// It stands at the front of the buffer, and `len` is how many bytes it has. The status is in its first line: 200, 400, 404, 405, 431, or 503
-/// where four scans of a board were given up, one after the other, or there was no memory for the scrape.
+/// The reply to a request of HTTP, which C has read whole: head and body, as [`dirgwako::serve_one`] writes them; a 200 is the
+/// text of a scrape. It stands at the front of the buffer, and `len` is how many bytes it has. The status is in its first line:
+/// 200, 400, 404, 405, 431, or 503 where four scans of a board were given up, one after the other, or there was no memory for the
+/// scrape.
 ///
-/// Answers 34, the handle is empty; 26, the request has no byte; 25, there is no memory for the reply; 37, the buffer is too short: `len` tells
-/// how many bytes this reply has, and a later one may have more. A scrape that was made is kept then as well.
+/// Answers 34, the handle is empty; 26, the request has no byte; 25, there is no memory for the reply; 37, the buffer is too
+/// short: `len` tells how many bytes this reply has, and a later one may have more. A scrape that was made is kept then as well.
 #[unsafe(no_mangle)]
 pub extern "C" fn dirgwako_c_reply(
     alloc: Global,
@@ -44,7 +45,8 @@ pub extern "C" fn dirgwako_c_reply(
     buffer: &mut [u8],
     len: &mut usize,
 ) -> u32
-    ensures { Calls ((buffer.new ≡ buffer.old) × (len.new ≡ len.old)) (λ before after. Replies scrapes_by request.now result before after
+    ensures { Calls ((buffer.new ≡ buffer.old) × (len.new ≡ len.old)) (λ before after. Replies scrapes_by request.now result
+        before after
         buffer.old buffer.new len.old len.new) result registry.old.value registry.new.value }
 {
     let Some(mut held) = registry.take(alloc) else {
@@ -57,8 +59,8 @@ pub extern "C" fn dirgwako_c_reply(
 
 /// The same by a scraper: [`dirgwako_c_reply`], beside the registry and other scrapers.
 ///
-/// Answers 34, the handle is empty; 26, the request has no byte; 25, there is no memory for the reply; 37, the buffer is too short: `len` tells
-/// how many bytes this reply has, and a later one may have more.
+/// Answers 34, the handle is empty; 26, the request has no byte; 25, there is no memory for the reply; 37, the buffer is too
+/// short: `len` tells how many bytes this reply has, and a later one may have more.
 #[unsafe(no_mangle)]
 pub extern "C" fn dirgwako_c_scraper_reply(
     alloc: Global,
@@ -67,7 +69,8 @@ pub extern "C" fn dirgwako_c_scraper_reply(
     buffer: &mut [u8],
     len: &mut usize,
 ) -> u32
-    ensures { Calls ((buffer.new ≡ buffer.old) × (len.new ≡ len.old)) (λ before after. Replies scrapes_alone request.now result before after
+    ensures { Calls ((buffer.new ≡ buffer.old) × (len.new ≡ len.old)) (λ before after. Replies scrapes_alone request.now result
+        before after
         buffer.old buffer.new len.old len.new) result scraper.old.value scraper.new.value }
 {
     let Some(mut held) = scraper.take(alloc) else {

@@ -45,8 +45,8 @@ pub extern "C" fn dirgwako_c_scraper_take(
     }
 }
 
-/// How many scrapers, taken or not, are told what comes: all that the registry was made with; but none any more after a child was refused for want of
-/// memory that had found no slot on the boards of its family.
+/// How many scrapers, taken or not, are told what comes: all that the registry was made with; but none any more after a child was
+/// refused for want of memory that had found no slot on the boards of its family.
 ///
 /// Answers 34, the handle is empty.
 #[unsafe(no_mangle)]

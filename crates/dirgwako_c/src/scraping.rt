@@ -68,12 +68,12 @@ fn print_to<S: ScrapeFrom>(source: &mut S, buffer: &mut [u8], len: &mut usize) -
     }
 }
 
-/// The text of a scrape of all boards, in the text exposition format 0.0.4: all series of a board at one moment. It stands at the front of the
-/// buffer, and `len` is how many bytes it has.
+/// The text of a scrape of all boards, in the text exposition format 0.0.4: all series of a board at one moment. It stands at the
+/// front of the buffer, and `len` is how many bytes it has.
 ///
-/// Answers 34, the handle is empty; 14, four scans of a board were given up, one after the other; 6, out of memory; 37, the buffer is too short:
-/// `len` tells how many bytes this text has, and a later one may have more. The scrape is kept then as well, and at 6 where its text alone found
-/// none; at 14, and at 6 of a board, the boards before it have kept theirs.
+/// Answers 34, the handle is empty; 14, four scans of a board were given up, one after the other; 6, out of memory; 37, the
+/// buffer is too short: `len` tells how many bytes this text has, and a later one may have more. The scrape is kept then as well,
+/// and at 6 where its text alone found none; at 14, and at 6 of a board, the boards before it have kept theirs.
 #[unsafe(no_mangle)]
 pub extern "C" fn dirgwako_c_scrape(
     alloc: Global,
@@ -81,7 +81,8 @@ pub extern "C" fn dirgwako_c_scrape(
     buffer: &mut [u8],
     len: &mut usize,
 ) -> u32
-    ensures { Calls ((buffer.new ≡ buffer.old) × (len.new ≡ len.old)) (λ before after. PrintsTo scrapes_by result before after buffer.old
+    ensures { Calls ((buffer.new ≡ buffer.old) × (len.new ≡ len.old)) (λ before after. PrintsTo scrapes_by result before after
+        buffer.old
         buffer.new len.old len.new) result registry.old.value registry.new.value }
 {
     let Some(mut held) = registry.take(alloc) else {
@@ -92,10 +93,11 @@ pub extern "C" fn dirgwako_c_scrape(
     answer
 }
 
-/// The text of a scrape by a scraper, of all that is registered by then. As [`dirgwako_c_scrape`], beside the registry and other scrapers.
+/// The text of a scrape by a scraper, of all that is registered by then. As [`dirgwako_c_scrape`], beside the registry and other
+/// scrapers.
 ///
-/// Answers 34, the handle is empty; 14, four scans of a board were given up, one after the other; 6, out of memory; 37, the buffer is too short:
-/// `len` tells how many bytes this text has, and a later one may have more.
+/// Answers 34, the handle is empty; 14, four scans of a board were given up, one after the other; 6, out of memory; 37, the
+/// buffer is too short: `len` tells how many bytes this text has, and a later one may have more.
 #[unsafe(no_mangle)]
 pub extern "C" fn dirgwako_c_scraper_scrape(
     alloc: Global,
@@ -103,7 +105,8 @@ pub extern "C" fn dirgwako_c_scraper_scrape(
     buffer: &mut [u8],
     len: &mut usize,
 ) -> u32
-    ensures { Calls ((buffer.new ≡ buffer.old) × (len.new ≡ len.old)) (λ before after. PrintsTo scrapes_alone result before after buffer.old
+    ensures { Calls ((buffer.new ≡ buffer.old) × (len.new ≡ len.old)) (λ before after. PrintsTo scrapes_alone result before after
+        buffer.old
         buffer.new len.old len.new) result scraper.old.value scraper.new.value }
 {
     let Some(mut held) = scraper.take(alloc) else {

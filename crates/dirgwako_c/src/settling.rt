@@ -7,7 +7,8 @@ ghost use Rattle.chain_law.specs.Settled.{HasIndex, IsSettled};
 ghost use Rattle.snapshot_scan.specs.Snapshots.{as_answer};
 ghost use Rattle.dirgwako_c.specs.Held.{Calls};
 ghost use Rattle.dirgwako_c.specs.Registries.{recorders_in};
-ghost use Rattle.dirgwako_c.specs.Settling.{seats_on, workers_of, published_in, Knows, AreOnce, IsTwice, IsApart, AreSettled, Settles};
+ghost use Rattle.dirgwako_c.specs.Settling.{seats_on, workers_of, published_in, Knows, AreOnce, IsTwice, IsApart};
+ghost use Rattle.dirgwako_c.specs.Settling.{AreSettled, Settles};
 
 use crate::handles::RegistryHandle;
 use crate::held::HeldRegistry;
@@ -180,12 +181,13 @@ fn settle_to<const N: usize, const C: usize, const H: usize, const G: usize>(
     }
 }
 
-/// Exact totals of a board, once all recorders are given back: each is exactly the sum of all that was counted on it, as [`dirgwako::settle`] has
-/// it. They stand at the front of the buffer, as those of a scrape do, and `len` is how many they are. Nothing is scanned, and nothing kept. Takes
-/// no memory.
+/// Exact totals of a board, once all recorders are given back: each is exactly the sum of all that was counted on it, as
+/// [`dirgwako::settle`] has it. They stand at the front of the buffer, as those of a scrape do, and `len` is how many they are.
+/// Nothing is scanned, and nothing kept. Takes no memory.
 ///
-/// Answers 34, the handle is empty; 42, no board has this number; 18, the recorder of worker `missing` was not given back; 16, one was given back
-/// that is of another registry, of the same id; 37, the buffer is too short: `len` tells how many numbers there are.
+/// Answers 34, the handle is empty; 42, no board has this number; 18, the recorder of worker `missing` was not given back; 16,
+/// one was given back that is of another registry, of the same id; 37, the buffer is too short: `len` tells how many numbers
+/// there are.
 #[unsafe(no_mangle)]
 pub extern "C" fn dirgwako_c_settle(
     alloc: Global,

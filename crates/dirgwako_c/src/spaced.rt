@@ -8,7 +8,8 @@ use dirgwako::{exponential, linear};
 
 /// Fills a list with bounds, of which the first is `start` and each other `width` above the one before: [`dirgwako::linear`].
 ///
-/// Answers 10, these numbers are no bounds: there are more than 24, one is over 2^48 - 1, or `width` is 0 and there are two. The list is as it was.
+/// Answers 10, these numbers are no bounds: there are more than 24, one is over 2^48 - 1, or `width` is 0 and there are two. The
+/// list is as it was.
 #[unsafe(no_mangle)]
 pub extern "C" fn dirgwako_c_linear(start: u64, width: u64, bounds: &mut [u64]) -> u32
     ensures { FillsBounds (linear_at start width) result bounds.old bounds.new }
@@ -22,9 +23,11 @@ pub extern "C" fn dirgwako_c_linear(start: u64, width: u64, bounds: &mut [u64]) 
     }
 }
 
-/// Fills a list with bounds, of which the first is `start` and each other `factor` times the one before: [`dirgwako::exponential`].
+/// Fills a list with bounds, of which the first is `start` and each other `factor` times the one before:
+/// [`dirgwako::exponential`].
 ///
-/// Answers 10, these numbers are no bounds: there are more than 24, one is over 2^48 - 1, or there are two and `start` is 0 or `factor` is below
+/// Answers 10, these numbers are no bounds: there are more than 24, one is over 2^48 - 1, or there are two and `start` is 0 or
+/// `factor` is below
 /// 2. The list is as it was.
 #[unsafe(no_mangle)]
 pub extern "C" fn dirgwako_c_exponential(start: u64, factor: u64, bounds: &mut [u64]) -> u32

@@ -1,5 +1,6 @@
 //! The recorders of a page that nobody has.
-ghost use Rattle.std.specs.Prelude.{◌≡◌, ◌<◌, ◌≤◌, [], ◌∷◌, ◌++◌, length, vec_capacity, All, IfOk, IfErr, IsTrue, IsFalse, OnOk, OnErr, MatchOption};
+ghost use Rattle.std.specs.Prelude.{◌≡◌, ◌<◌, ◌≤◌, [], ◌∷◌, ◌++◌, length, vec_capacity, All, IfOk, IfErr, IsTrue, IsFalse};
+ghost use Rattle.std.specs.Prelude.{OnOk, OnErr, MatchOption};
 ghost use mathlib.Core.Option.{some};
 ghost use lib.ListN.{get_elem?};
 
@@ -8,8 +9,8 @@ use crate::joining::join_all;
 use page_crew::SharedRecorder;
 use std::alloc::{AllocError, Global};
 
-/// Recorders that nobody has, each in the box that a handle owns, so that handing one out takes no memory. There is room for one of each
-/// worker.
+/// Recorders that nobody has, each in the box that a handle owns, so that handing one out takes no memory. There is room for one
+/// of each worker.
 #[derive(Drop)]
 pub struct Spare<const N: usize, const C: usize, const H: usize, const G: usize> {
     recorders: Vec<Box<HeldRecorder<N, C, H, G>>>,

@@ -1,6 +1,6 @@
 //! An example of a service: two threads do pretended jobs and count them, while a third one answers scrapes of what they count.
-//! `example_service PORT REPLIES` answers so many connections to 127.0.0.1, whose port it tells, and then prints how many jobs were done, and
-//! its metrics.
+//! `example_service PORT REPLIES` answers so many connections to 127.0.0.1, whose port it tells, and then prints how many jobs
+//! were done, and its metrics.
 #![tactic(auto)]
 
 use anyhow::{Context, Result};

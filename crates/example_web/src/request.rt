@@ -63,7 +63,8 @@ fn read_code(mut stream: &TcpStream) -> Result<Code> {
     Ok(Code::BadRequest)
 }
 
-/// The next connection. One that fails, as where no descriptor is left, is asked for again a tenth of a second later, 64 times in a row.
+/// The next connection. One that fails, as where no descriptor is left, is asked for again a tenth of a second later, 64 times in
+/// a row.
 pub fn accept(rt: &impl ServiceRuntime, listener: &TcpListener) -> Result<TcpStream> {
     for _try in 1..64usize {
         if let Ok((stream, _peer)) = listener.accept() {

@@ -65,7 +65,8 @@ module _ (desc : Descriptor) (own : List (List ℕ × List ℕ)) (are : AreBound
       pairs_bounds AreApart desc own buckets (λ j k lt within same.
       let e = shifted_injective desc.digits (slice_index desc.bounds j) (slice_index desc.bounds k) (bound_small j (omega arith))
       (bound_small k within)
-      (bounds_same own (shifted desc.digits (slice_index desc.bounds j)) (shifted desc.digits (slice_index desc.bounds k)) none same.labels) in
+      (bounds_same own (shifted desc.digits (slice_index desc.bounds j)) (shifted desc.digits (slice_index desc.bounds k)) none
+      same.labels) in
       let rises = are.rising j k 0 lt within in
       absurd (omega arith))
 

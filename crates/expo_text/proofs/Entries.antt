@@ -19,7 +19,12 @@ abbrev pub written_label : List ℕ × List ℕ → List ℕ × List ℕ
 written_label label = (label.0, flat_map label_byte label.1)
 
 abbrev pub written_of : Shown → Written
-written_of sample = record { name = sample.name; labels = map written_label sample.labels; value = signed_shifted sample.digits sample.value }
+written_of sample = record {
+  name = sample.name;
+  labels = map written_label sample.labels;
+  value = signed_shifted sample.digits
+      sample.value;
+}
 
 -- the entries of a group's lines
 abbrev pub help_entries : (name help : List ℕ) → List LineEntry

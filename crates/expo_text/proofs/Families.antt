@@ -36,7 +36,8 @@ pairs_of_children R desc [] all = tt
 pairs_of_children R desc (child ∷ children) all = (tt, tt)
 
 -- what holds of the group of each printed family holds of each group
-pub each_group : (P : ShownGroup → Type 0) (families : List Family) → Each (λ family. IsPrinted family → P (group_for family)) families
+pub each_group : (P : ShownGroup → Type 0) (families : List Family) → Each (λ family. IsPrinted family → P (group_for family))
+    families
     → Each P (flat_map shown_group families)
 each_group P families all =
     each_flat_map P shown_group families
@@ -44,7 +45,8 @@ each_group P families all =
     (λ family holds. each_of_children P family.desc family.children (shown_of_family family) holds) families all)
 
 -- what holds between the groups of two printed families
-across_groups : (R : ShownGroup → ShownGroup → Type 0) (a b : Family) → (IsPrinted a → IsPrinted b → R (group_for a) (group_for b))
+across_groups : (R : ShownGroup → ShownGroup → Type 0) (a b : Family) → (IsPrinted a → IsPrinted b → R (group_for a) (group_for
+    b))
     → Across R (shown_group a) (shown_group b)
 across_groups R a b holds =
     each_of_children (λ group. Each (R group) (shown_group b)) a.desc a.children (shown_of_family a)

@@ -1,6 +1,7 @@
 -- Digits after a point, and what they are worth.
 use Rattle.std.proofs.Common.{◌≡◌, ◌≢◌, ℕ, zero, suc, ◌+◌, ◌-◌, ◌*◌, ◌/◌, ◌%◌, ◌^◌, ◌<◌, ◌≤◌, ◌⊎◌, inl, inr, List, [], ◌∷◌, ◌++◌}
-use Rattle.std.proofs.Common.{length, get_or, drop, codes, refl, sym, ap, ap₂, ◌∙◌, subst, arith, pow-suc, length-append, ne_eqb, eq-eqb}
+use Rattle.std.proofs.Common.{length, get_or, drop, codes, refl, sym, ap, ap₂, ◌∙◌, subst, arith, pow-suc, length-append}
+use Rattle.std.proofs.Common.{ne_eqb, eq-eqb}
 use Rattle.std.specs.Str.Parse.{AllDigits, digits_value, digits_value_after}
 use Rattle.std.specs.Char.{digit_value}
 use Rattle.std.proofs.Math.Nat.{mod-lt, div-add-mod, div-lt_iff_lt-mul, mul-lt-mul_of_pos_right, eq_of_mul-eq-mul_right}

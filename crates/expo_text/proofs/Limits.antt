@@ -89,8 +89,10 @@ histogram-short desc labels totals name few_digits each few few_bounds bounds bu
     bucket-short desc labels (shifted desc.digits (slice_index desc.bounds k)) _ name each few (omega (arith, digits))
     (cumulated-small totals.buckets (length desc.bounds) k buckets)) in
     let all = bucket-short desc labels (codes "+Inf") (sum totals.buckets) name each few (omega arith) buckets in
-    let total = series-short desc.name (codes "_sum") labels desc.digits totals.sum name (omega arith) each few few_digits small_sum in
-    let count = series-short desc.name (codes "_count") labels 0 totals.count name (omega arith) each few (omega arith) small_count in
+    let total = series-short desc.name (codes "_sum") labels desc.digits totals.sum name (omega arith) each few few_digits
+    small_sum in
+    let count = series-short desc.name (codes "_count") labels 0 totals.count name (omega arith) each few (omega arith)
+    small_count in
     record {
       each = All-append IsShortSample (shown_bounds desc labels totals.buckets) (shown_last desc labels totals) first
           (All-three IsShortSample all total count);
@@ -189,12 +191,14 @@ children-short desc (child ∷ children) is spelled = printed-short desc (child 
 group-short : (family : Family) → IsFamily family → IsSpelledIfPrinted family → length (shown_group_text family) ≤ 50000000
 group-short family is spelled = children-short family.desc family.children is spelled
 
-pub text-bounded : (scrape : Scraped) → IsScrape scrape → All IsSpelledIfPrinted scrape.families → length (shown_text scrape) < 2 ^ 33
+pub text-bounded : (scrape : Scraped) → IsScrape scrape → All IsSpelledIfPrinted scrape.families → length (shown_text scrape) < 2
+    ^ 33
 text-bounded scrape is spelled =
     let each : All (λ (family : Family). length (shown_group_text family) ≤ 50000000) scrape.families = λ k d within. group-short
     (get_or scrape.families k d) (is.each k d within) (spelled k d within) in
     let all = flat_map-short shown_group_text 50000000 scrape.families each in
     omega (arith, all, is.few)
 
-pub text-short : (scrape : Scraped) → IsScrape scrape → All IsSpelledIfPrinted scrape.families → length (shown_text scrape) < 2 ^ 64
+pub text-short : (scrape : Scraped) → IsScrape scrape → All IsSpelledIfPrinted scrape.families → length (shown_text scrape) < 2 ^
+    64
 text-short scrape is spelled = let bounded = text-bounded scrape is spelled in omega (arith, bounded)

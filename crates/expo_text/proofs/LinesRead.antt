@@ -83,7 +83,8 @@ is_sample_line sample printed =
     record {
       kept = each_append is_kept sample.name (labels_text sample.labels ++ (32 ∷ signed_shifted sample.digits sample.value))
           (named_kept sample.name named)
-          (each_append is_kept (labels_text sample.labels) (32 ∷ signed_shifted sample.digits sample.value) (labels_kept sample.labels labels)
+          (each_append is_kept (labels_text sample.labels) (32 ∷ signed_shifted sample.digits sample.value) (labels_kept
+          sample.labels labels)
           (refl, token_kept (signed_shifted sample.digits sample.value) token));
       reads = sample_read sample.name (signed_shifted sample.digits sample.value) sample.labels named labels token;
       formed = λ e. cc;

@@ -1,5 +1,6 @@
 -- Names, helps and values by their bytes.
-use Rattle.std.proofs.Common.{◌≡◌, ℕ, ◌<◌, ◌^◌, Bool, true, false, ◌-◌, suc, slice_index, ◌&&◌, ◌||◌, ◌==◌, nat_lt, IsTrue, List, subst, length-append, sym}
+use Rattle.std.proofs.Common.{◌≡◌, ℕ, ◌<◌, ◌^◌, Bool, true, false, ◌-◌, suc, slice_index, ◌&&◌, ◌||◌, ◌==◌, nat_lt, IsTrue}
+use Rattle.std.proofs.Common.{List, subst, length-append, sym}
 use Rattle.std.proofs.Common.{[], ◌∷◌, ◌++◌, length, get_or, All, pos, nat_abs, refl, inl, inr, arith, le-leb}
 use Rattle.std.specs.Prelude.{ℤ, negsuc, flat_map}
 use Rattle.expo_text.specs.Shifted.{pointed, WritesTo, shifted, signed_shifted}

@@ -34,9 +34,11 @@ pub each_bound : (P : Shown → Type 0) (desc : Descriptor) (own : List (List �
     → P (shown_bucket desc own (shifted desc.digits (slice_index desc.bounds k)) (cumulated buckets (length desc.bounds) k)))
     → Each P (shown_bounds desc own buckets)
 each_bound P desc own buckets holds =
-    each_map P (λ k. shown_bucket desc own (shifted desc.digits (slice_index desc.bounds k)) (cumulated buckets (length desc.bounds) k))
+    each_map P (λ k. shown_bucket desc own (shifted desc.digits (slice_index desc.bounds k)) (cumulated buckets (length
+    desc.bounds) k))
     (range_with_len 0 (length desc.bounds))
-    (each_range (λ k. P (shown_bucket desc own (shifted desc.digits (slice_index desc.bounds k)) (cumulated buckets (length desc.bounds) k)))
+    (each_range (λ k. P (shown_bucket desc own (shifted desc.digits (slice_index desc.bounds k)) (cumulated buckets (length
+    desc.bounds) k)))
     0 (length desc.bounds) (λ k _ within. holds k (omega (arith, within))))
 
 -- what holds between the samples of each two bounds
@@ -46,7 +48,8 @@ pub pairs_bounds : (R : Shown → Shown → Type 0) (desc : Descriptor) (own : L
     (shown_bucket desc own (shifted desc.digits (slice_index desc.bounds k)) (cumulated buckets (length desc.bounds) k)))
     → Pairs R (shown_bounds desc own buckets)
 pairs_bounds R desc own buckets holds =
-    pairs_map R (λ k. shown_bucket desc own (shifted desc.digits (slice_index desc.bounds k)) (cumulated buckets (length desc.bounds) k))
+    pairs_map R (λ k. shown_bucket desc own (shifted desc.digits (slice_index desc.bounds k)) (cumulated buckets (length
+    desc.bounds) k))
     (range_with_len 0 (length desc.bounds))
     (pairs_range (λ j k. R (shown_bucket desc own (shifted desc.digits (slice_index desc.bounds j))
     (cumulated buckets (length desc.bounds) j))

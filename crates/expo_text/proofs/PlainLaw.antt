@@ -92,7 +92,8 @@ sample_to kind written sample is = record {
   value = value_to kind written.value sample.value is.value;
 }
 
-sample_from : (kind : Kind) (written : Written) (sample : Sample) → IsSampleTo 0 kind written sample → IsSample kind written sample
+sample_from : (kind : Kind) (written : Written) (sample : Sample) → IsSampleTo 0 kind written sample → IsSample kind written
+    sample
 sample_from kind written sample is = record {
   name = is.name;
   labels = is.labels;
@@ -105,7 +106,8 @@ part_to part group is = record {
   spelled = is.spelled;
   help = is.help;
   kind = is.kind;
-  samples = match_weaker (IsSample group.kind) (IsSampleTo 0 group.kind) (sample_to group.kind) part.samples group.samples is.samples;
+  samples = match_weaker (IsSample group.kind) (IsSampleTo 0 group.kind) (sample_to group.kind) part.samples group.samples
+      is.samples;
 }
 
 part_from : (part : Part) (group : Group) → IsGroupTo 0 part group → IsGroup part group
@@ -220,7 +222,8 @@ worth_none : (samples : List Shown) → map (worth 0) samples ≡ map unshifted 
 worth_none [] = refl
 worth_none (sample ∷ samples) =
     ap₂ (λ (v : ℤ) (rest : List Sample). record { name = sample.name; labels = sample.labels; value = v } ∷ rest)
-    (times_one sample.value (10 ^ (0 - sample.digits)) (ap (λ k. 10 ^ k) (let none : 0 - sample.digits ≡ 0 = omega arith in none)))
+    (times_one sample.value (10 ^ (0 - sample.digits)) (ap (λ k. 10 ^ k) (let none : 0 - sample.digits ≡ 0 = omega arith in
+    none)))
     (worth_none samples)
 
 -- an unshifted value
@@ -281,7 +284,8 @@ family_few : (family : Family) → family.desc.digits ≡ 0 → Each (IsWithin 0
 family_few family none =
     each_flat_map (IsWithin 0) (shown_of_child family.desc) family.children
     (each_any (λ child. Each (IsWithin 0) (shown_of_child family.desc child))
-    (λ child. number_within 0 family.desc (zip family.desc.labels child.values) child.number (omega (arith, none))) family.children)
+    (λ child. number_within 0 family.desc (zip family.desc.labels child.values) child.number (omega (arith, none)))
+    family.children)
 
 family_text_none : (family : Family) → family.desc.digits ≡ 0 → shown_group_text family ≡ group_text family
 family_text_none family none =

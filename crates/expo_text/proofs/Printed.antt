@@ -1,5 +1,6 @@
 -- The groups of a scrape are such as a scrape prints: names, labels, values and signs.
-use Rattle.std.proofs.Common.{◌≡◌, ◌≢◌, ℕ, zero, suc, ◌-◌, ◌<◌, ◌^◌, Bool, true, false, ltb, List, [], ◌∷◌, ◌++◌, length, ◌⊎◌, ◌≤◌}
+use Rattle.std.proofs.Common.{◌≡◌, ◌≢◌, ℕ, zero, suc, ◌-◌, ◌<◌, ◌^◌, Bool, true, false, ltb, List, [], ◌∷◌, ◌++◌, length}
+use Rattle.std.proofs.Common.{◌⊎◌, ◌≤◌}
 use Rattle.std.proofs.Common.{inl, inr, refl, sym, subst, arith, length-append}
 use Rattle.std.specs.Prelude.{pos, negsuc, ◌-ℤ◌, nat_abs, All, IsTrue, ◌&&◌, ◌||◌, ◌==◌, nat_lt, sum, zip, codes, slice_index}
 use Rattle.std.proofs.lemmas.Bool.{cond_both}

@@ -61,7 +61,8 @@ bucket-line desc labels bound value same =
     ∙ ap (λ b. start ++ (opened labels ++ (mark (length labels) ++ (codes "le" ++ codes "=\"" ++ b ++ codes "\"")) ++ codes "}")
     ++ codes " " ++ decimal value ++ codes "\n") (sym same)
     ∙ ap (λ l. start ++ l ++ codes " " ++ decimal value ++ codes "\n") (labels_text-more labels (codes "le", bound))
-    ∙ ap (λ v. start ++ labels_text (labels ++ ((codes "le", bound) ∷ [])) ++ codes " " ++ v ++ codes "\n") (sym (shifted_none value))
+    ∙ ap (λ v. start ++ labels_text (labels ++ ((codes "le", bound) ∷ [])) ++ codes " " ++ v ++ codes "\n") (sym (shifted_none
+    value))
 
 -- one more bucket
 pub buckets-next : (front : List ℕ) (digits : ℕ) (bounds cumulated : List ℕ) (n : ℕ)
@@ -117,13 +118,21 @@ histogram-lines desc labels totals values few small are count =
     let number : List ℕ = series (desc.name ++ codes "_count") labels in
     let before : List ℕ = bucket_lines front desc.digits desc.bounds values (length desc.bounds) in
     let all_line : List ℕ = shown_line (shown_bucket desc labels (codes "+Inf") (sum totals.buckets)) in
-    let sum_line : List ℕ = shown_line (record { name = desc.name ++ codes "_sum"; labels = labels; value = pos totals.sum; digits = desc.digits }) in
+    let sum_line : List ℕ = shown_line (record {
+      name = desc.name ++ codes "_sum";
+      labels = labels;
+      value = pos totals.sum;
+      digits
+          = desc.digits;
+    }) in
     let count_line : List ℕ =
     shown_line (record { name = desc.name ++ codes "_count"; labels = labels; value = pos totals.count; digits = 0 }) in
-    ap (λ l. before ++ l ++ (total ++ value_text (codes " ") (shifted desc.digits totals.sum)) ++ (number ++ value_text (codes " ") (shifted 0 totals.count)))
+    ap (λ l. before ++ l ++ (total ++ value_text (codes " ") (shifted desc.digits totals.sum)) ++ (number ++ value_text (codes
+    " ") (shifted 0 totals.count)))
     (ap (λ n. bucket_line front (codes "+Inf") (decimal n)) count
     ∙ bucket-line desc labels (codes "+Inf") (sum totals.buckets) refl)
-    ∙ ap (λ l. before ++ all_line ++ l ++ (number ++ value_text (codes " ") (shifted 0 totals.count))) (line-is total (shifted desc.digits totals.sum))
+    ∙ ap (λ l. before ++ all_line ++ l ++ (number ++ value_text (codes " ") (shifted 0 totals.count))) (line-is total (shifted
+    desc.digits totals.sum))
     ∙ ap (λ l. before ++ all_line ++ sum_line ++ l) (line-is number (shifted 0 totals.count))
     ∙ three-after before all_line sum_line count_line
     ∙ ap (λ l. l ++ (all_line ++ (sum_line ++ (count_line ++ []))))

@@ -124,7 +124,8 @@ writes_one places token m n is_m is_n =
 -- so two numbers that are shifted alike have two texts
 pub shifted_injective : (d m n : ℕ) → m < 2 ^ 64 → n < 2 ^ 64 → shifted d m ≡ shifted d n → m ≡ n
 shifted_injective d m n small_m small_n e =
-    writes_one d (shifted d n) m n (subst (λ token. WritesTo d token m) e (shifted_writes d m small_m)) (shifted_writes d n small_n)
+    writes_one d (shifted d n) m n (subst (λ token. WritesTo d token m) e (shifted_writes d m small_m)) (shifted_writes d n
+    small_n)
 
 -- the bound of all values is no number
 pub no_inf : (places n : ℕ) → ¬ (WritesTo places (codes "+Inf") n)

@@ -197,7 +197,8 @@ IsUtf8Line sample = IsUtf8 (shown_line sample)
 line_utf8 : (sample : Shown) → IsUtf8 sample.name → HasUtf8Labels sample → IsSmall sample → IsUtf8Line sample
 line_utf8 sample name labels small =
     five sample.name (labels_text sample.labels) (codes " ") (signed_shifted sample.digits sample.value) (codes "\n") name labels
-    (fixed (codes " ") refl) (token_utf8 (signed_shifted sample.digits sample.value) (value_token sample.digits sample.value small)) (fixed (codes "\n") refl)
+    (fixed (codes " ") refl) (token_utf8 (signed_shifted sample.digits sample.value) (value_token sample.digits sample.value
+    small)) (fixed (codes "\n") refl)
 
 -- the names of a kind's samples
 names_utf8 : (name : List ℕ) (kind : Kind) → IsUtf8 name → IsOfNames IsUtf8 name kind
@@ -237,7 +238,8 @@ help_utf8 : (name help : List ℕ) → IsUtf8 name → IsUtf8 help → IsUtf8 (h
 help_utf8 name [] is_name is_help = IsUtf8-nil
 help_utf8 name (byte ∷ bytes) is_name is_help =
     five (codes "# HELP ") name (codes " ") (flat_map help_byte (byte ∷ bytes)) (codes "\n") (fixed (codes "# HELP ") refl)
-    is_name (fixed (codes " ") refl) (written_utf8 help_byte help_below help_above (byte ∷ bytes) is_help) (fixed (codes "\n") refl)
+    is_name (fixed (codes " ") refl) (written_utf8 help_byte help_below help_above (byte ∷ bytes) is_help) (fixed (codes "\n")
+    refl)
 
 -- the line of a type
 kind_utf8 : (kind : Kind) → IsUtf8 (kind_text kind)

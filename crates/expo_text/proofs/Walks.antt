@@ -120,5 +120,6 @@ found places bytes groups reads = record {
 }
 
 -- the two are the same
-pub reads_walked : (places : ℕ) (bytes : List ℕ) (groups : List Group) → ReadsTo places bytes groups ↔ ReadsWalked places bytes groups
+pub reads_walked : (places : ℕ) (bytes : List ℕ) (groups : List Group) → ReadsTo places bytes groups ↔ ReadsWalked places bytes
+    groups
 reads_walked places bytes groups = (walked places bytes groups, found places bytes groups)

@@ -1,5 +1,6 @@
 -- What a histogram's group keeps: buckets that rise, and for each child a bucket of all values that equals its count.
-use Rattle.std.proofs.Common.{◌≡◌, ℕ, zero, suc, ◌+◌, ◌-◌, ◌*◌, ◌<◌, ◌≤◌, ◌^◌, false, List, [], ◌∷◌, ◌++◌, length, take, get_or, inl, inr, map}
+use Rattle.std.proofs.Common.{◌≡◌, ℕ, zero, suc, ◌+◌, ◌-◌, ◌*◌, ◌<◌, ◌≤◌, ◌^◌, false, List, [], ◌∷◌, ◌++◌, length, take}
+use Rattle.std.proofs.Common.{get_or, inl, inr, map}
 use Rattle.std.proofs.Common.{refl, sym, ap, subst, ◌∙◌, arith, append-nil}
 use Rattle.std.specs.Prelude.{ℤ, ◌*ℤ◌, ◌≤ℤ◌, Option, Some, None, slice_index, pos, All, Contains, not, sum, zip, flat_map, codes}
 use Rattle.std.proofs.lemmas.Bool.{lt-ltb, cond_both, cond-true, not_from_false, false_from_ne_true}
@@ -31,7 +32,8 @@ use Rattle.expo_text.proofs.Filled.{ten-pos}
 use Rattle.expo_text.proofs.ShiftedNumbers.{shifted_writes, writes_more, writes_one, no_inf, shifted_no_inf}
 use Rattle.expo_text.proofs.ShownGroups.{ShownGroup, shown_groups, group_for, as_group}
 use Rattle.std.proofs.Math.Nat.{mul-le-mul_right, mul-lt-mul_of_pos_right}
-use Rattle.expo_text.proofs.Pairs.{Each, Pairs, each_weaker, each_both, each_append, each_map, each_flat_map, pairs_places, pairs_append, pairs_map}
+use Rattle.expo_text.proofs.Pairs.{Each, Pairs, each_weaker, each_both, each_append, each_map, each_flat_map, pairs_places}
+use Rattle.expo_text.proofs.Pairs.{pairs_append, pairs_map}
 use Rattle.expo_text.proofs.LabelSets.{HasNoLe, no_le_in, le_is, le_there, turned, same_list}
 use Rattle.expo_text.proofs.Families.{IsPrinted, HasFew, each_group}
 use Rattle.expo_text.proofs.Owned.{IsOwned, OwnedAs, owned_so, both_same, each_bound, pairs_bounds, number_owned}
@@ -334,7 +336,8 @@ family_whole : (places : ℕ) (family : Family) → IsFamily family → family.d
     → ¬ (Contains family.desc.labels le)
     → Each (λ s. IsWhole (as_group places (group_for family)) (worth places s)) (shown_of_family family)
 family_whole places family is kind none =
-    each_flat_map (λ s. IsWhole (as_group places (group_for family)) (worth places s)) (shown_of_child family.desc) family.children
+    each_flat_map (λ s. IsWhole (as_group places (group_for family)) (worth places s)) (shown_of_child family.desc)
+    family.children
     (each_weaker (λ (child : Child). Contains family.children child × IsNumberOf family.desc.kind child.number)
     (λ child. Each (λ s. IsWhole (as_group places (group_for family)) (worth places s)) (shown_of_child family.desc child))
     (λ child known.

@@ -13,7 +13,8 @@ use Rattle.expo_text.specs.Shown.{Shown, shown_of_family}
 use Rattle.expo_text.specs.Groups.{Group, group_of_children}
 use Rattle.expo_text.specs.Lines.{AreLines, Written, LineEntry, IsLine}
 use Rattle.expo_text.specs.Parts.{Part, AreParts}
-use Rattle.expo_text.specs.Reads.{Match, IsHelpOf, word_of, IsLabel, IsSameSeries, HasDistinctLabels, IsOfOneChild, IsLower, IsWhole}
+use Rattle.expo_text.specs.Reads.{Match, IsHelpOf, word_of, IsLabel, IsSameSeries, HasDistinctLabels, IsOfOneChild, IsLower}
+use Rattle.expo_text.specs.Reads.{IsWhole}
 
 -- what a shown sample, of at most `places` digits, is worth in parts
 abbrev pub worth : (places : ℕ) → Shown → Sample

@@ -37,5 +37,6 @@ bucket_line front bound digits = front ++ bound ++ codes "\"} " ++ digits ++ cod
 -- the lines of the first `n` buckets, of these bounds, which are shifted, and these cumulated values
 abbrev pub bucket_lines : (front : List ℕ) → (digits : ℕ) → (bounds cumulated : List ℕ) → (n : ℕ) → List ℕ
 bucket_lines front digits bounds cumulated n =
-    flat_map (λ line. line) (map (λ k. bucket_line front (shifted digits (slice_index bounds k)) (decimal (slice_index cumulated k)))
+    flat_map (λ line. line) (map (λ k. bucket_line front (shifted digits (slice_index bounds k)) (decimal (slice_index cumulated
+    k)))
     (range_with_len 0 n))

@@ -48,7 +48,8 @@ impl Sink for Page {
 pub fn render(scrape: &Scrape) -> Result<Vec<u8>, NoMemory>
     ensures text { IfOk result (λ bytes. bytes.items ≡ shown_text scrape.now) }
     ensures utf8 { IfOk result (λ bytes. IsUtf8 bytes.items) }
-    ensures reading { IfOk result (λ bytes. (groups : List Group) → ReadsTo 9 bytes.items groups ↔ (groups ≡ groups_to 9 scrape.now)) }
+    ensures reading { IfOk result (λ bytes. (groups : List Group) → ReadsTo 9 bytes.items groups ↔ (groups ≡ groups_to 9
+        scrape.now)) }
     ensures plain { IfOk result (λ bytes. ArePlain scrape.now → bytes.items ≡ text scrape.now) }
     ensures plain_reading { IfOk result (λ bytes. ArePlain scrape.now
         → (groups : List Group) → Reads bytes.items groups ↔ (groups ≡ groups_of scrape.now)) }

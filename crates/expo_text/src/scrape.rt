@@ -94,8 +94,8 @@ impl Scrape {
     /// with more than 256 children, children not in strict order, too many or too few values, a number of another kind, or a
     /// histogram whose count is not the sum of its buckets.
     ///
-    /// Takes no memory. Looks in each pair of families, of which there are at most 8,128, for a name that the lines of both take; families,
-    /// and the children of each, are otherwise compared only with the next.
+    /// Takes no memory. Looks in each pair of families, of which there are at most 8,128, for a name that the lines of both take;
+    /// families, and the children of each, are otherwise compared only with the next.
     pub fn checked(vector: Vec<u64>, families: Vec<FamilyScrape>) -> Option<Scrape>
         ensures some { IfSome result (λ scrape. scrape ≡ record { vector = vector.items; families = families.items }) }
         ensures none { IfNone result (¬ (IsScrape (record { vector = vector.items; families = families.items }))) }

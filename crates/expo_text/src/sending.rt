@@ -176,7 +176,8 @@ pub fn write_after<W: Write>(
 ) -> Result<(), WriteFailed>
     requires not_failed { out.old.failed ≡ false }
     requires short { length front.now ≤ 16384 }
-    ensures sent { OnOk result (Appends (W.contents out.old.inner) (W.contents out.new.inner) (front.now ++ shown_text scrape.now)) }
+    ensures sent { OnOk result (Appends (W.contents out.old.inner) (W.contents out.new.inner) (front.now ++ shown_text
+        scrape.now)) }
     ensures part { IfErr result (λ fault. (fault.sent < length (front.now ++ shown_text scrape.now))
         × Appends (W.contents out.old.inner) (W.contents out.new.inner) (take fault.sent (front.now ++ shown_text scrape.now))) }
     ensures failed { out.new.failed ≡ is_err result }

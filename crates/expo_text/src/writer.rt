@@ -93,7 +93,8 @@ fn put_lines<S: Sink>(sink: &mut S, front: &mut Front, desc: &Desc, children: &[
     requires fit { All (λ (child : Child). length child.values ≡ length desc.now.labels) children.now }
     requires numbers { All (λ (child : Child). IsNumberOf desc.now.kind child.number) children.now }
     requires some { 0 < length children.now }
-    ensures text { S.took sink.old sink.new (shown_group_of desc.now children.now (flat_map (shown_of_child desc.now) children.now)) }
+    ensures text { S.took sink.old sink.new (shown_group_of desc.now children.now (flat_map (shown_of_child desc.now)
+        children.now)) }
     ensures spelled { IsSpelledDesc desc.now }
     ensures children { All IsSpelledChild children.now }
 {

@@ -10,7 +10,8 @@ pub(crate) fn same<T: PartialEq + Debug + Drop>(rt: &impl Abort, left: T, right:
     assert_eq!(rt; left, right);
 }
 
-/// What a call answers that is not to be refused. Where it is, the test ends: so that its caller has one way out, and no drops on another.
+/// What a call answers that is not to be refused. Where it is, the test ends: so that its caller has one way out, and no drops on
+/// another.
 pub(crate) fn need<T, E: Debug>(rt: &impl Abort, answer: Result<T, E>) -> T
     ensures { answer ≡ Ok result }
 {
@@ -40,8 +41,8 @@ pub(crate) fn are_names(rt: &impl Abort, names: &[String], expected: &[&str]) {
     }
 }
 
-/// What a call answers that was made once more, behind a refusal for want of memory. That it is refused again is told in other words, by which
-/// a run with one allocation refused fails.
+/// What a call answers that was made once more, behind a refusal for want of memory. That it is refused again is told in other
+/// words, by which a run with one allocation refused fails.
 pub(crate) fn once_more<T, E: Drop>(rt: &impl Abort, answer: Result<T, E>) -> T
     ensures { answer ≡ Ok result }
 {

@@ -1,5 +1,5 @@
-//! The tests in Rattle: of the library for services, and of the crates that it is built of, where C does not reach. They stand apart from what they
-//! test: a crate with tests is proved twice.
+//! The tests in Rattle: of the library for services, and of the crates that it is built of, where C does not reach. They stand
+//! apart from what they test: a crate with tests is proved twice.
 #![tactic(auto)]
 
 #[cfg(test)]

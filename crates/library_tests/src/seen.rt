@@ -111,8 +111,8 @@ pub(crate) struct Moment {
     pub(crate) gauge: GaugeTotals,
 }
 
-/// What is seen of a registry: the numbers of its families `a` and `b`, those of their children that were made, how many entries its
-/// journal has, how many scrapes it keeps, and the first two of them.
+/// What is seen of a registry: the numbers of its families `a` and `b`, those of their children that were made, how many entries
+/// its journal has, how many scrapes it keeps, and the first two of them.
 #[derive(Clone, Copy, Debug, PartialEq, Eq)]
 pub(crate) struct Seen {
     pub(crate) families: [Option<usize>; 2],
@@ -122,8 +122,8 @@ pub(crate) struct Seen {
     pub(crate) scrapes: [Option<Moment>; 2],
 }
 
-/// What it takes to look at a registry: the label values of its children, how many of them were made, that of `a` first, and room for a
-/// scrape.
+/// What it takes to look at a registry: the label values of its children, how many of them were made, that of `a` first, and room
+/// for a scrape.
 #[derive(Drop)]
 pub(crate) struct Look {
     pub(crate) values: Vec<LabelValue>,

@@ -1,6 +1,6 @@
-//! The library for services by its public calls, where C does not reach: crews of one board, registries and pages behind a lock, servers. Its
-//! clauses hand on those of the calls below, so what is tried here is what none of them says: that each call succeeds, at its limits too, what a
-//! scrape prints, and how a server goes on behind clients that are not as they should be.
+//! The library for services by its public calls, where C does not reach: crews of one board, registries and pages behind a lock,
+//! servers. Its clauses hand on those of the calls below, so what is tried here is what none of them says: that each call
+//! succeeds, at its limits too, what a scrape prints, and how a server goes on behind clients that are not as they should be.
 mod behind;
 mod busy;
 mod clients;

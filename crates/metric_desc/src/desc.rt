@@ -27,8 +27,8 @@ pub struct Desc {
     digits: u8,
 }
 
-// Written out, so that it is proved once: a derived drop is proved anew, with the drops of all its parts, in each crate that lets a
-// descriptor go.
+// Written out, so that it is proved once: a derived drop is proved anew, with the drops of all its parts, in each crate that lets
+// a descriptor go.
 impl Drop for Desc {
     fn drop(self) {
         let Desc {
@@ -225,8 +225,8 @@ impl Desc {
         self.digits
     }
 
-    /// The names that the family's lines take: its own, which of a histogram only the HELP and TYPE lines have, and of a histogram also its
-    /// own with `_bucket`, `_sum` and `_count`, those of its samples, in this order.
+    /// The names that the family's lines take: its own, which of a histogram only the HELP and TYPE lines have, and of a
+    /// histogram also its own with `_bucket`, `_sum` and `_count`, those of its samples, in this order.
     ///
     /// Refusal 6 [`NoMemory`], and no other.
     pub fn names(&self) -> Result<Vec<String>, NoMemory>

@@ -1,8 +1,8 @@
 ghost use Rattle.std.specs.Prelude.{◌≡◌, [], ◌∷◌, true, MatchOption, flat_map};
 ghost use Rattle.metric_names.specs.ByteText.{byte_text};
 
-/// What stands in the text format for a byte that cannot stand as it is: a backslash or a line feed, and where it is `quoted`, in a
-/// label's value, a double quote. None: the byte stands as it is.
+/// What stands in the text format for a byte that cannot stand as it is: a backslash or a line feed, and where it is `quoted`, in
+/// a label's value, a double quote. None: the byte stands as it is.
 ///
 /// Source: Prometheus documentation, "Exposition formats", "Text format details".
 #[inline]

@@ -1,5 +1,5 @@
-//! The names and texts of a metric: [`MetricName`], [`LabelName`], [`HelpText`] and [`LabelValue`]; and how a byte of them is written
-//! in the text format, [`escape`].
+//! The names and texts of a metric: [`MetricName`], [`LabelName`], [`HelpText`] and [`LabelValue`]; and how a byte of them is
+//! written in the text format, [`escape`].
 //!
 //! A value of one of these types is in its grammar, which the `read` call tested once.
 //! The grammars are those of the Prometheus documentation, "Data model" and "Exposition formats".

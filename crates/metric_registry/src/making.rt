@@ -34,8 +34,8 @@ impl<'a, B: Named, const N: usize, const C: usize, const H: usize, const G: usiz
 > {
     ghost use Rattle.metric_registry.specs.Names.{id_of};
 
-    /// A registry of this board, with an empty journal and without families, that scans with this reader, which has to be of this board, and
-    /// keeps `window` scrapes. Its handles have the board's id. Where `B` names a board, it is this one.
+    /// A registry of this board, with an empty journal and without families, that scans with this reader, which has to be of this
+    /// board, and keeps `window` scrapes. Its handles have the board's id. Where `B` names a board, it is this one.
     ///
     /// # Errors
     ///
@@ -69,8 +69,8 @@ impl<'a, B: Named, const N: usize, const C: usize, const H: usize, const G: usiz
         }
     }
 
-    /// A registry of what this state has, behind a lock. Where `B` names a board, the state is of that; and its journal begins with the
-    /// changes that `B` names.
+    /// A registry of what this state has, behind a lock. Where `B` names a board, the state is of that; and its journal begins
+    /// with the changes that `B` names.
     pub fn lock(
         state: RegistryState<Scanner<'a, N, C, H, G>, N, C, H, G>,
     ) -> RegistryOf<'a, B, N, C, H, G>

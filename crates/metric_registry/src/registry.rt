@@ -21,13 +21,13 @@ use std::sync::{Mutex, Wait};
 /// The registry of a board of `N` workers and of rows of `C` counters, `H` histograms and `G` gauges: families, children and kept
 /// scrapes behind one lock.
 ///
-/// Its calls take `&self`, so that any number of threads may share it. They wait for the lock, in no order that is promised; while
-/// a scrape is made, the others wait for it. Workers count on the board meanwhile, and know nothing of the lock.
+/// Its calls take `&self`, so that any number of threads may share it. They wait for the lock, in no order that is promised;
+/// while a scrape is made, the others wait for it. Workers count on the board meanwhile, and know nothing of the lock.
 ///
 /// Whatever the calls were, whenever the lock is free its journal replays to its families, and its kept scrapes are at most the
 /// window, the last that its reader recorded, and moments of one history of publishes: that is what [`RegistryOf::into_state`]
-/// promises, and [`RegistryOf::settle`] that this history is what its workers published. Which of its states a call under the lock
-/// meets no clause says, since others may have come between: docs/REGISTRY.md has what is left to tests.
+/// promises, and [`RegistryOf::settle`] that this history is what its workers published. Which of its states a call under the
+/// lock meets no clause says, since others may have come between: docs/REGISTRY.md has what is left to tests.
 pub struct RegistryOf<
     'a,
     B: Named,
@@ -139,7 +139,8 @@ impl<'a, B: Named, const N: usize, const C: usize, const H: usize, const G: usiz
     ///
     /// # Errors
     ///
-    /// 6 [`ScrapeFault::NoMemory`]: nothing was scanned. 14 [`ScrapeFault::Contended`]: the scan was given up. Nothing is kept then.
+    /// 6 [`ScrapeFault::NoMemory`]: nothing was scanned. 14 [`ScrapeFault::Contended`]: the scan was given up. Nothing is kept
+    /// then.
     pub fn scrape<R: Wait>(&self, rt: &R) -> Result<Scrape, ScrapeFault>
         ensures moment { IfOk result (ShowsMoment N C H G B.first) }
         ensures fault { IfErr result (IsScrapeFault N) }

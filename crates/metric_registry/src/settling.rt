@@ -26,11 +26,11 @@ pub struct NotSettled<R> {
     pub fault: NotAll,
 }
 
-/// The journal of a registry without a lock, and exact totals of all that these workers have published, to which all workers of the
-/// board are gathered: the registry scans this board, and these are workers of it.
+/// The journal of a registry without a lock, and exact totals of all that these workers have published, to which all workers of
+/// the board are gathered: the registry scans this board, and these are workers of it.
 ///
-/// After Ok all workers of the board are among these; the journal replays; its kept scrapes, and `out` after them, are moments of the one
-/// history of what these workers published, in order; and each total of `out` is exactly the sum of all of it.
+/// After Ok all workers of the board are among these; the journal replays; its kept scrapes, and `out` after them, are moments of
+/// the one history of what these workers published, in order; and each total of `out` is exactly the sum of all of it.
 ///
 /// # Errors
 ///

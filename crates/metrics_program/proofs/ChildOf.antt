@@ -126,7 +126,8 @@ module _ {S : Type 0} (c h g : ℕ) (old new : RegistryView S) (number : ℕ) (v
       given
 
   -- another child was made, or was there
-  module _ (desc : Descriptor) (others : List (List ℕ)) (other : Handle) (is : IsChildOf old.id old.state.families desc others other)
+  module _ (desc : Descriptor) (others : List (List ℕ)) (other : Handle) (is : IsChildOf old.id old.state.families desc others
+      other)
     where
       abbrev Still : RegistryView S → Type 0
       Still r = IsChildOf r.id r.state.families desc others other

@@ -58,7 +58,8 @@ abbrev pub IsNewCode : List ℕ → List Family → Type 0
 IsNewCode code families = All (λ (it : Family). IsNew it (code ∷ [])) families
 
 -- at first there is the family alone
-pub begun : {S : Type 0} (old new : RegistryView S) (desc : Descriptor) → old.state ≡ nothing → new ≡ changed (Registered desc) old
+pub begun : {S : Type 0} (old new : RegistryView S) (desc : Descriptor) → old.state ≡ nothing → new ≡ changed (Registered desc)
+    old
     → desc ≡ replies_family → HasCodes replies_family 0 [] new
 begun old new desc none is same =
     no_codes old new replies_family none (is ∙ ap (λ (d : Descriptor). changed (Registered d) old) same) refl

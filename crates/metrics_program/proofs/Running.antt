@@ -7,7 +7,8 @@ use Rattle.std.proofs.KnownBytes.{Appends-nil, Appends-trans, Keeps-refl}
 use Rattle.script_lines.specs.Cuts.{Cuts}
 use Rattle.script_lines.specs.declared.lines.Next.{Next}
 use Rattle.script_lines.specs.declared.lines.Next.TheVariants as next
-use Rattle.metrics_program.specs.Ran.{Known, IsLineStepped, Runs, AreNextLines, HasRun, HasStopped, IsBadNext, StopsNext, StopsStep}
+use Rattle.metrics_program.specs.Ran.{Known, IsLineStepped, Runs, AreNextLines, HasRun, HasStopped, IsBadNext, StopsNext}
+use Rattle.metrics_program.specs.Ran.{StopsStep}
 use Rattle.metrics_program.specs.declared.line_fault.LineFault.TheVariants as fault
 use Rattle.metrics_program.specs.declared.script.Stop.{Stop}
 use Rattle.metrics_program.specs.declared.script.Stop.TheVariants as stop

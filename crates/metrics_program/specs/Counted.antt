@@ -1,5 +1,6 @@
 -- What the server counts of itself.
-use Rattle.std.specs.Prelude.{◌≡◌, ◌⊎◌, ℕ, zero, suc, ◌+◌, ◌<◌, List, [], ◌∷◌, ◌++◌, map, length, slice_index, All, Result, IfOk, OnErr}
+use Rattle.std.specs.Prelude.{◌≡◌, ◌⊎◌, ℕ, zero, suc, ◌+◌, ◌<◌, List, [], ◌∷◌, ◌++◌, map, length, slice_index, All, Result}
+use Rattle.std.specs.Prelude.{IfOk, OnErr}
 use Rattle.bucket_math.specs.Bounds.{place_of}
 use Rattle.ledger_core.specs.declared.op.Op.{Op}
 use Rattle.ledger_core.specs.declared.op.Op.TheVariants.{Inc, Observe}

@@ -44,7 +44,8 @@ bytes_family = record {
   digits = 0;
 }
 
--- in a registry of this id and of these families, the handle is that of the child of these values, of the family that is so described
+-- in a registry of this id and of these families, the handle is that of the child of these values, of the family that is so
+-- described
 pub record IsChildOf (id : ℕ) (families : List Family) (desc : Descriptor) (values : List (List ℕ)) (it : Handle) : Type 0 where
   pub number : ℕ
   pub slot : ℕ
@@ -52,8 +53,8 @@ pub record IsChildOf (id : ℕ) (families : List Family) (desc : Descriptor) (va
       × Contains family.children (record { values = values; slot = slot }))
   pub handle_is : IsHandle id desc slot it
 
--- these are the server's metrics there: the counter of each status is that of the child of its code, and the histogram that of the child
--- without values
+-- these are the server's metrics there: the counter of each status is that of the child of its code, and the histogram that of
+-- the child without values
 pub record AreRegistered (id : ℕ) (families : List Family) (m : Metrics) : Type 0 where
   pub replies : (status : Status) → IsChildOf id families replies_family (decimal (code_of status) ∷ [])
       (handle.Counter (counter_for m status))

@@ -10,7 +10,8 @@ use Rattle.registry_state.specs.Faults.{register_fault_number, child_fault_numbe
 use Rattle.worker_pool.specs.Faults.{pool_fault_number}
 use Rattle.metrics_program.specs.declared.line_fault.LineFault.{LineFault}
 use Rattle.metrics_program.specs.declared.line_fault.LineFault.TheVariants.{BadLine, Name, Label, Help, Labels, Histogram, Value}
-use Rattle.metrics_program.specs.declared.line_fault.LineFault.TheVariants.{Register, NoSuchFamily, Child, NoSuchChild, Pool, Scrape}
+use Rattle.metrics_program.specs.declared.line_fault.LineFault.TheVariants.{Register, NoSuchFamily, Child, NoSuchChild, Pool}
+use Rattle.metrics_program.specs.declared.line_fault.LineFault.TheVariants.{Scrape}
 use Rattle.metrics_program.specs.declared.line_fault.LineFault.TheVariants.{Window, NoMemory}
 
 -- the number of each fault

@@ -15,8 +15,8 @@ pub record IsSameBoard {S : Type 0} (old new : RegistryView S) : Type 0 where
   pub source : new.source ≡ old.source
   pub id : new.id ≡ old.id
 
--- the registry is of this board, its journal replays to what it holds, and these are the server's metrics in it: six counters of the
--- board's, no two of which are one, each that of the child of its code, and the histogram of the bytes
+-- the registry is of this board, its journal replays to what it holds, and these are the server's metrics in it: six counters of
+-- the board's, no two of which are one, each that of the child of its code, and the histogram of the bytes
 pub record IsService (b : Board 4 64 8 16) (registry : RegistryView (Scanner 4 64 8 16)) (m : Metrics) : Type 0 where
   pub scans : board_in registry.source ≡ b
   pub id : registry.id ≡ board_id b

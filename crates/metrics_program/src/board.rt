@@ -22,7 +22,8 @@ pub type Reader = snapshot_scan::Reader<4, 64, 8, 16>;
 /// What a reader of the program scans to.
 pub type Snapshot = snapshot_scan::Snapshot<4, 64, 8, 16>;
 
-/// The registry of the program, without a lock: that of a script, which is nobody else's, and that of a server before it is locked.
+/// The registry of the program, without a lock: that of a script, which is nobody else's, and that of a server before it is
+/// locked.
 pub type Registry<'a> = RegistryState<Scanner<'a, 4, 64, 8, 16>, 4, 64, 8, 16>;
 
 /// The id of the board.

@@ -1,5 +1,5 @@
-//! What the program `metrics_run` does: [`run_script`] runs the lines of a script over a board of four workers, and [`serve_on`] answers
-//! connections by four threads, each with a worker of its own, and counts the replies as metrics that it serves itself.
+//! What the program `metrics_run` does: [`run_script`] runs the lines of a script over a board of four workers, and [`serve_on`]
+//! answers connections by four threads, each with a worker of its own, and counts the replies as metrics that it serves itself.
 #![tactic(auto)]
 
 // The board of both.

@@ -12,8 +12,8 @@ use worker_pool::{Job, JobLists};
 /// How many workers there are.
 const WORKERS: usize = 4;
 
-/// The handles of a script's children, by their numbers, and what waits for `go`: a list of entries for each worker, each of which
-/// makes a job of its child's handle.
+/// The handles of a script's children, by their numbers, and what waits for `go`: a list of entries for each worker, each of
+/// which makes a job of its child's handle.
 #[derive(Drop)]
 pub(crate) struct Queue {
     pub(crate) children: Vec<Handle>,

@@ -7,8 +7,8 @@ use registry_state::Handle;
 use script_lines::Counting;
 use worker_pool::Job;
 
-/// A job that waits: the line that asked for it, and what it counts, `by`, in the child of this number. It has no handle in it, so that it
-/// takes 32 bytes, where a [`Job`] takes 240.
+/// A job that waits: the line that asked for it, and what it counts, `by`, in the child of this number. It has no handle in it,
+/// so that it takes 32 bytes, where a [`Job`] takes 240.
 #[derive(Clone, Copy)]
 pub(crate) struct QueuedJob {
     pub(crate) line: u64,

@@ -269,8 +269,8 @@ pub fn refuse_all<W: Write>(writer: &mut W) -> ScriptEnd
     ended(writer, Err(stop_at(0, LineFault::NoMemory)))
 }
 
-/// The end of a script that ran to its last line: what its registry notes, and exact totals of all that its workers have counted. The
-/// scrapes that are kept, and these totals after them, are moments of the one history of what these workers published.
+/// The end of a script that ran to its last line: what its registry notes, and exact totals of all that its workers have counted.
+/// The scrapes that are kept, and these totals after them, are moments of the one history of what these workers published.
 fn end(state: State<'_>) -> (Journal<4, 64, 8, 16>, Snapshot)
     requires { IsReady state }
     ensures journal { result.0 ≡ state.entry.registry.journal }

@@ -126,8 +126,8 @@ fn to_four(board: &Board, mut workers: Vec<Worker>) -> Four
     Four { a, b, c, d }
 }
 
-/// Answers so many connections, and tells how many replies were counted, by all workers together, and the journal of the registry that
-/// was served. None where a thread could not be started or the listener has failed.
+/// Answers so many connections, and tells how many replies were counted, by all workers together, and the journal of the registry
+/// that was served. None where a thread could not be started or the listener has failed.
 #[tactic(auto, using(crate::proofs::Counting::all_own))]
 fn serve_counting<B: Named + Send, T: Threads + Wait + Sync>(
     rt: &T,
@@ -226,19 +226,19 @@ fn serve_by<T: Threads + Wait + Sync, W: Write>(
     }
 }
 
-/// Accepts so many connections, and answers each by `serve_one`: the k-th, from 0, by thread k mod 4. It first writes `listening P`
-/// with the port of the listener, and after the last connection `served K`, where K is how many replies were counted.
+/// Accepts so many connections, and answers each by `serve_one`: the k-th, from 0, by thread k mod 4. It first writes `listening
+/// P` with the port of the listener, and after the last connection `served K`, where K is how many replies were counted.
 ///
 /// The board is that of a script. The server counts its own replies: `scrape_requests_total`, by their `code`, and
-/// `scrape_reply_bytes`. A request that ends in 24, 25 or 26 is not counted, and does not end the server. Up to 200 connections wait
-/// for each thread; where a thread has as many, no more are accepted until it gets on. There are no timeouts: a client that sends
-/// nothing, or does not read, keeps its thread.
+/// `scrape_reply_bytes`. A request that ends in 24, 25 or 26 is not counted, and does not end the server. Up to 200 connections
+/// wait for each thread; where a thread has as many, no more are accepted until it gets on. There are no timeouts: a client that
+/// sends nothing, or does not read, keeps its thread.
 ///
 /// # Errors
 ///
 /// [`ServeEnd::NoMemory`] comes before the first connection, after `refused 0 6` was written; later want of memory is that of a
-/// scrape, which is replied as 503. [`ServeEnd::Broken`] where the listener or the writer fails, or a thread cannot be started; then
-/// all threads have ended.
+/// scrape, which is replied as 503. [`ServeEnd::Broken`] where the listener or the writer fails, or a thread cannot be started;
+/// then all threads have ended.
 pub fn serve_on<T: Threads + Wait + Sync, W: Write>(
     rt: &T,
     alloc: Global,

@@ -146,8 +146,8 @@ fn start<'s, E: 's, T: Threads + Wait + Sync, S: ScrapeFrom + Send + Drop + 's>(
         .ok()
 }
 
-/// Accepts so many connections, and puts the k-th, from 0, into the queue k mod 4, where it waits for room. None where the listener
-/// fails.
+/// Accepts so many connections, and puts the k-th, from 0, into the queue k mod 4, where it waits for room. None where the
+/// listener fails.
 fn accept_all(
     rt: &impl Wait,
     listener: &TcpListener,
@@ -161,8 +161,8 @@ fn accept_all(
     Some(())
 }
 
-/// Starts a thread for each worker, has them answer so many connections, and joins them. None where a thread could not be started or
-/// the listener has failed: what was answered by then is counted.
+/// Starts a thread for each worker, has them answer so many connections, and joins them. None where a thread could not be started
+/// or the listener has failed: what was answered by then is counted.
 fn serve_all<'s, E: 's, T: Threads + Wait + Sync, S: ScrapeFrom + Send + Drop + 's>(
     scope: &'s Scope<'s, E>,
     shared: Shared<'s, T>,
@@ -196,9 +196,8 @@ fn serve_all<'s, E: 's, T: Threads + Wait + Sync, S: ScrapeFrom + Send + Drop + 
     Some(four)
 }
 
-/// Has four threads answer so many connections, which end before it returns, each from a source that is asked again where a scan was
-/// given up. None where a thread could not be started or the listener
-/// has failed: what was answered by then is counted.
+/// Has four threads answer so many connections, which end before it returns, each from a source that is asked again where a scan
+/// was given up. None where a thread could not be started or the listener has failed: what was answered by then is counted.
 pub(crate) fn serve_in_threads<T: Threads + Wait + Sync, S: ScrapeFrom + Send + Drop>(
     shared: Shared<'_, T>,
     sources: (AskedAgain<S>, AskedAgain<S>, AskedAgain<S>, AskedAgain<S>),

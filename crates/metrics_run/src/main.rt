@@ -1,8 +1,8 @@
 //! The program: `metrics_run script` reads script lines from standard input, counts, and prints scrapes; `metrics_run serve PORT
 //! COUNT` answers so many connections on 127.0.0.1, with its own metrics.
 //!
-//! Exit status 0 at the end; 1 after a refused line, or without memory for the arguments or a server; 2 for other arguments; 3 where
-//! standard input, standard output or a socket failed, or a server's thread could not be started.
+//! Exit status 0 at the end; 1 after a refused line, or without memory for the arguments or a server; 2 for other arguments; 3
+//! where standard input, standard output or a socket failed, or a server's thread could not be started.
 #![tactic(auto)]
 
 mod arguments;

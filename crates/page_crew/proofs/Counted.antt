@@ -15,7 +15,8 @@ use Rattle.page_crew.specs.Counting.{AreInRow, AreTaken, IsPublished, IsRefused,
 use Rattle.page_crew.proofs.Rows.{one_did, row_set}
 use Rattle.page_crew.proofs.Taken.{taken_set}
 
-module _ {N C H G : ℕ} (id : ℕ) (old mid : List (SharedRecorder N C H G)) (op : Op) (place : ℕ) (before after : SharedRecorder N C H G)
+module _ {N C H G : ℕ} (id : ℕ) (old mid : List (SharedRecorder N C H G)) (op : Op) (place : ℕ) (before after : SharedRecorder N C
+    H G)
     (came : (came : List (SharedRecorder N C H G)) × (mid ≡ old ++ came)) (at : slice_get mid place ≡ Some before)
     (of_it : id_in before ≡ id) (seat : IsSameSeat before after) where
   -- it was counted

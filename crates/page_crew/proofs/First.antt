@@ -20,7 +20,8 @@ module _ {N C H G : ℕ} (old new : List (SharedRecorder N C H G)) where
       (sym (All-head (IsOf id) change changes all)) (all, subst (λ (l : List Op). IsPublishedOn id l old new) is did)
 
   -- they were refused there
-  pub first_refused : (changes : List Change) (id : ℕ) (ops : List Op) (fault : CountFault) → All (IsOf id) changes → 0 < length changes
+  pub first_refused : (changes : List Change) (id : ℕ) (ops : List Op) (fault : CountFault) → All (IsOf id) changes → 0 < length
+      changes
       → ops ≡ map op_in changes → IsRefusedOn id ops old new fault → IsPublishRefused changes old new (Count fault)
   first_refused [] id ops fault all some is did = absurd (omega (arith, some))
   first_refused (change ∷ changes) id ops fault all some is did =

@@ -28,7 +28,8 @@ refused_alike c h g ops m (Refused (TooLarge place)) within why =
 module _ {N C H G : ℕ} (id : ℕ) (old new : List (SharedRecorder N C H G)) where
   -- what the one did is more than this
   one_more : (Did Does : SharedRecorder N C H G → SharedRecorder N C H G → Type 0)
-      → ((before after : SharedRecorder N C H G) → Did before after → Does before after) → OneDid id old new Did → OneDid id old new Does
+      → ((before after : SharedRecorder N C H G) → Did before after → Does before after) → OneDid id old new Did → OneDid id old
+      new Does
   one_more Did Does more one = record {
     came = one.came;
     place = one.place;
@@ -48,7 +49,8 @@ module _ {N C H G : ℕ} (id : ℕ) (old new : List (SharedRecorder N C H G)) wh
     alike = accepts_alike C H G (word_after (sum_ops C H) (member_of (worker_in before)).work.made) ops did.accepted;
   })
 
-pub flush_refused : {N C H G : ℕ} (t : Tallied) (old new : List (SharedRecorder N C H G)) (fault : CountFault) → All (IsWithin C H G) t.ops
+pub flush_refused : {N C H G : ℕ} (t : Tallied) (old new : List (SharedRecorder N C H G)) (fault : CountFault) → All (IsWithin C H
+    G) t.ops
     → IsRefusedOn t.registry t.ops old new fault → IsFlushRefused t old new fault
 flush_refused t old new WrongRegistry within why = why
 flush_refused {N} {C} {H} {G} t old new (Apply fault) within why =

@@ -1,5 +1,6 @@
 -- A child for which a board came.
-use Rattle.std.proofs.Common.{◌≡◌, ◌≢◌, ℕ, ◌+◌, ◌<◌, ◌≤◌, List, [], ◌∷◌, ◌++◌, Some, length, slice_get, refl, sym, ap, subst, ◌∙◌, arith, inl, inr}
+use Rattle.std.proofs.Common.{◌≡◌, ◌≢◌, ℕ, ◌+◌, ◌<◌, ◌≤◌, List, [], ◌∷◌, ◌++◌, Some, length, slice_get, refl, sym, ap, subst}
+use Rattle.std.proofs.Common.{◌∙◌, arith, inl, inr}
 use Rattle.std.specs.Prelude.{◌⊎◌, Option, None, Result, Ok, Err, IfOk, IfErr, IsSomeAnd}
 use Rattle.std.proofs.lemmas.Option.{slice_get_within}
 use Rattle.std.proofs.lemmas.List.{length_push, get_or_push}
@@ -15,7 +16,8 @@ use Rattle.scrape_page.specs.Rooms.{HasRoom, AreFull}
 use Rattle.scrape_page.specs.declared.fault.PageChildFault.{PageChildFault}
 use Rattle.scrape_page.specs.declared.fault.PageChildFault.TheVariants.{NoSuchFamily, LabelCount, TooManyChildren, Full, NoMemory}
 use Rattle.page_crew.specs.Opened.{IsNewBoard}
-use Rattle.page_crew.specs.Owned.{page_of, rings_of, first_of, window_of, IsGrown, IsUnchanged, PageDid, IsGivenFurther, IsRefusedFurther, IsGivenByCrew, IsRefusedByCrew}
+use Rattle.page_crew.specs.Owned.{page_of, rings_of, first_of, window_of, IsGrown, IsUnchanged, PageDid, IsGivenFurther}
+use Rattle.page_crew.specs.Owned.{IsRefusedFurther, IsGivenByCrew, IsRefusedByCrew}
 use Rattle.page_crew.specs.Rings.{Ring, AreGiven}
 use Rattle.page_crew.specs.declared.owner.PageCrew.{PageCrew}
 use Rattle.page_crew.specs.declared.shared_scanner.SharedScanner.{SharedScanner}
@@ -35,7 +37,14 @@ module _ {S : Type 0} (c h g : ℕ) (page : PageView S) (board : RegistryView S)
     (some : 0 < slots c h g kind) where
   -- an empty board has a free slot of the kind
   has_room : HasRoom c h g kind board
-  has_room = subst (λ state. HasSlot c h g state.families kind) (sym empty) (0, some, λ k d within. absurd (omega (arith, within)))
+  has_room = subst (λ state. HasSlot c h g state.families kind) (sym empty) (
+    0,
+    some,
+    λ k d within. absurd (omega (
+      arith,
+      within,
+    )),
+  )
 
   -- the page with that board refuses for want of memory alone
   pub only_memory : (why : PageChildFault)
@@ -50,14 +59,16 @@ module _ {S : Type 0} (c h g : ℕ) (page : PageView S) (board : RegistryView S)
       let it = both_there
       (λ (it : PageFamily). IsMissing page.boards it values × (it.children < 256) × (kind ≡ it.desc.kind)
       × AreFull c h g it.desc.kind page.boards)
-      (λ (it : PageFamily). (want ≡ length it.desc.labels) × (got ≡ length values) × (want ≢ got)) (slice_get page.families number) full.1
+      (λ (it : PageFamily). (want ≡ length it.desc.labels) × (got ≡ length values) × (want ≢ got)) (slice_get page.families
+      number) full.1
       other in
       absurd (it.3.2 (it.3.0 ∙ sym it.2.0.0 ∙ sym it.3.1))
   only_memory TooManyChildren more =
       let it = both_there
       (λ (it : PageFamily). IsMissing page.boards it values × (it.children < 256) × (kind ≡ it.desc.kind)
       × AreFull c h g it.desc.kind page.boards)
-      (λ (it : PageFamily). IsMissing (page.boards ++ board ∷ []) it values × (256 ≤ it.children)) (slice_get page.families number) full.1
+      (λ (it : PageFamily). IsMissing (page.boards ++ board ∷ []) it values × (256 ≤ it.children)) (slice_get page.families
+      number) full.1
       more in
       absurd (let few = it.2.1 in let most = it.3.1 in omega (arith, few, most))
   only_memory (Full kind' many') none =
@@ -83,8 +94,10 @@ module _ {N C H G : ℕ} where
       is_new = subst (λ (p : PageView (SharedScanner N C H G)).
           IsNewBoard (first_of old + length p.boards) (window_of old) grown.board grown.recorders) same.1
           (subst (λ w. IsNewBoard (first_of old + length (page_of mid).boards) w grown.board grown.recorders) same.0.1
-          (subst (λ f. IsNewBoard (f + length (page_of mid).boards) (window_of mid) grown.board grown.recorders) same.0.0 grown.is_new));
-      page = grown.page ∙ ap (λ (p : PageView (SharedScanner N C H G)). record p { boards = p.boards ++ grown.board ∷ [] }) same.1;
+          (subst (λ f. IsNewBoard (f + length (page_of mid).boards) (window_of mid) grown.board grown.recorders) same.0.0
+          grown.is_new));
+      page = grown.page ∙ ap (λ (p : PageView (SharedScanner N C H G)). record p { boards = p.boards ++ grown.board ∷ [] })
+          same.1;
       given = subst (λ (l : List (Ring N C H G)). AreGiven l (rings_of new) grown.recorders) same.2 grown.given;
     }
 
@@ -92,7 +105,8 @@ module _ {N C H G : ℕ} where
     unchanged_from more = ((more.0.0 ∙ same.0.0, more.0.1 ∙ same.0.1), more.1 ∙ same.1, more.2 ∙ same.2)
 
   -- a board came, and the page was asked again
-  module _ (old mid new : PageCrew N C H G) (grown : IsGrown old mid) (number : ℕ) (values : List (List ℕ)) (kind : Kind) (many : ℕ) where
+  module _ (old mid new : PageCrew N C H G) (grown : IsGrown old mid) (number : ℕ) (values : List (List ℕ)) (kind : Kind) (many :
+      ℕ) where
     pub given_further : (result : Result Handle PageChildFault)
         → IfOk result (λ handle. PageDid mid new (λ a b. IsGivenOnPage C H G a b number values handle))
         → IfOk result (IsGivenFurther old new number values)
@@ -100,12 +114,14 @@ module _ {N C H G : ℕ} where
     given_further (Err why) did = tt
 
     pub refused_further : IsPageChildFault C H G (page_of old) number values (Full kind many) → length (page_of old).boards < 96
-        → 0 < slots C H G kind → (result : Result Handle PageChildFault) → IfErr result (IsPageChildFault C H G (page_of mid) number values)
+        → 0 < slots C H G kind → (result : Result Handle PageChildFault) → IfErr result (IsPageChildFault C H G (page_of mid)
+        number values)
         → IfErr result (λ why. PageDid mid new (λ a b. LeavesPage C H G a b number why))
         → IfErr result (IsRefusedFurther old new number kind many)
     refused_further full few some (Ok handle) fault leaves = tt
     refused_further full few some (Err why) fault leaves =
-        let memory : why ≡ NoMemory = only_memory C H G (page_of old) grown.board grown.is_new.state number values kind many full some why
+        let memory : why ≡ NoMemory = only_memory C H G (page_of old) grown.board grown.is_new.state number values kind many full
+        some why
         (subst (λ (p : PageView (SharedScanner N C H G)). IsPageChildFault C H G p number values why) grown.page fault) in
         inr (
           memory,
@@ -119,7 +135,8 @@ module _ {N C H G : ℕ} where
         )
 
   -- nothing had changed before it came
-  module _ (old mid new : PageCrew N C H G) (same : IsUnchanged old mid) (number : ℕ) (values : List (List ℕ)) (kind : Kind) (many : ℕ)
+  module _ (old mid new : PageCrew N C H G) (same : IsUnchanged old mid) (number : ℕ) (values : List (List ℕ)) (kind : Kind) (many
+      : ℕ)
       (full : IsPageChildFault C H G (page_of old) number values (Full kind many)) where
     pub given_then : (result : Result Handle PageChildFault) → IfOk result (IsGivenFurther mid new number values)
         → IfOk result (IsGivenByCrew old new number values)
@@ -129,7 +146,8 @@ module _ {N C H G : ℕ} where
     few_from : length (page_of mid).boards < 96 → length (page_of old).boards < 96
     few_from few = subst (λ (p : PageView (SharedScanner N C H G)). length p.boards < 96) same.1 few
 
-    refused_from : (why : PageChildFault) → IsRefusedFurther mid new number kind many why → IsRefusedFurther old new number kind many why
+    refused_from : (why : PageChildFault) → IsRefusedFurther mid new number kind many why → IsRefusedFurther old new number kind
+        many why
     refused_from why (inl none) =
         inl (
           none.0,
@@ -147,7 +165,8 @@ module _ {N C H G : ℕ} where
     refused_then (Err why) fault = inr (kind, many, full, refused_from why fault)
 
 -- a child was refused for want of a slot, and nothing has changed
-pub was_full : {N C H G : ℕ} (old mid : PageCrew N C H G) (number : ℕ) (values : List (List ℕ)) (why : PageChildFault) (kind : Kind) (slots : ℕ)
+pub was_full : {N C H G : ℕ} (old mid : PageCrew N C H G) (number : ℕ) (values : List (List ℕ)) (why : PageChildFault) (kind :
+    Kind) (slots : ℕ)
     → why ≡ Full kind slots → PageDid old mid (λ a b. LeavesPage C H G a b number why)
     → IsPageChildFault C H G (page_of old) number values why
     → IsUnchanged old mid × IsPageChildFault C H G (page_of old) number values (Full kind slots)

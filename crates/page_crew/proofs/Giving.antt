@@ -1,5 +1,6 @@
 -- What is given to rings, one after the other.
-use Rattle.std.proofs.Common.{◌≡◌, ℕ, zero, suc, ◌+◌, ◌<◌, ◌≤◌, List, [], ◌∷◌, ◌++◌, Some, length, slice_get, get_or, set, All, refl, sym, ap, subst, ◌∙◌, arith, inl, inr}
+use Rattle.std.proofs.Common.{◌≡◌, ℕ, zero, suc, ◌+◌, ◌<◌, ◌≤◌, List, [], ◌∷◌, ◌++◌, Some, length, slice_get, get_or, set}
+use Rattle.std.proofs.Common.{All, refl, sym, ap, subst, ◌∙◌, arith, inl, inr}
 use Rattle.std.specs.Prelude.{drop, Option, None}
 use Rattle.std.proofs.Math.ListN.{length-set}
 use Rattle.std.proofs.lemmas.Option.{slice_get_read, slice_get_within, slice_get-get_or, slice_get_cases}
@@ -36,12 +37,13 @@ drop_end [] n none = omega arith
 drop_end (x ∷ xs) zero none = absurd (omega (arith, none))
 drop_end (x ∷ xs) (suc n) none = let le = drop_end xs n none in omega (arith, le)
 
-pub record IsGiving {T : Type 0} (place : ℕ) (old new : List (Producer T Global AnyItems)) (rest recorders : List T) : Type 0 where
-  pub many : length new ≡ length old
-  pub left : rest ≡ drop place recorders
-  pub given : (k : ℕ) (p q : Producer T Global AnyItems) (r : T) → k < place → slice_get old k ≡ Some p → slice_get new k ≡ Some q
-      → slice_get recorders k ≡ Some r → IsGiven p q r
-  pub kept : (k : ℕ) (q : Producer T Global AnyItems) → place ≤ k → slice_get new k ≡ Some q → slice_get old k ≡ Some q
+pub record IsGiving {T : Type 0} (place : ℕ) (old new : List (Producer T Global AnyItems)) (rest recorders : List T) : Type 0
+  where
+    pub many : length new ≡ length old
+    pub left : rest ≡ drop place recorders
+    pub given : (k : ℕ) (p q : Producer T Global AnyItems) (r : T) → k < place → slice_get old k ≡ Some p → slice_get new k ≡ Some q
+        → slice_get recorders k ≡ Some r → IsGiven p q r
+    pub kept : (k : ℕ) (q : Producer T Global AnyItems) → place ≤ k → slice_get new k ≡ Some q → slice_get old k ≡ Some q
 
 some_same : {A : Type 0} (o : Option A) (x y : A) → o ≡ Some x → o ≡ Some y → x ≡ y
 some_same {A} o x y a b = ap (value x) (sym a ∙ b)
@@ -65,7 +67,8 @@ module _ {T : Type 0} (place : ℕ) (old new : List (Producer T Global AnyItems)
     ring_kept p read = giving.kept place p (omega arith) (slice_get_read new (length new) place p refl place_within read)
 
     -- it was given the next recorder
-    pub gives : (p q : Producer T Global AnyItems) → p ≡ get_or new place p → IsGiven p q r → IsGiving (place + 1) old (set new place q) rest' recorders
+    pub gives : (p q : Producer T Global AnyItems) → p ≡ get_or new place p → IsGiven p q r → IsGiving (place + 1) old (set new
+        place q) rest' recorders
     gives p q read given = record {
       many = length-set new place q ∙ giving.many;
       left = let next_place : suc place ≡ place + 1 = omega arith in subst (λ n. rest' ≡ drop n recorders) next_place step.1;
@@ -99,7 +102,8 @@ module _ {T : Type 0} (place : ℕ) (old new : List (Producer T Global AnyItems)
       }
 
 -- rings to which nothing was given have each been given its recorder alone
-pub first_given : {N C H G : ℕ} (old new : List (Ring N C H G)) (recorders : List (SharedRecorder N C H G)) → AreGiven old new recorders
+pub first_given : {N C H G : ℕ} (old new : List (Ring N C H G)) (recorders : List (SharedRecorder N C H G)) → AreGiven old new
+    recorders
     → All (λ (p : Ring N C H G). (sent p ≡ []) × (known_free p ≡ 96)) old
     → (k : ℕ) (p : Ring N C H G) (r : SharedRecorder N C H G) → slice_get new k ≡ Some p → slice_get recorders k ≡ Some r
     → sent p ≡ r ∷ []
@@ -116,7 +120,8 @@ module _ {N C H G : ℕ} where
   pair_then p q r same pair = (pair.0 ∙ sym same.0.0, pair.1 ∙ sym same.0.1, pair.2 ∙ sym same.0.2, pair.3 ∙ sym same.0.3)
 
   -- one ring more, and its recorder
-  pub paired_more : (rings : List (Ring N C H G)) (recorders : List (PageRecorder N C H G)) (p : Ring N C H G) (r : PageRecorder N C H G)
+  pub paired_more : (rings : List (Ring N C H G)) (recorders : List (PageRecorder N C H G)) (p : Ring N C H G) (r : PageRecorder N
+      C H G)
       → length rings ≡ length recorders → ArePaired rings recorders → IsPair p (feed_of r)
       → ArePaired (rings ++ p ∷ []) (recorders ++ r ∷ [])
   paired_more rings recorders p r many paired pair k q s at_q at_s = elim (at_push rings p k q at_q) [
@@ -132,7 +137,8 @@ module _ {N C H G : ℕ} where
   ]
 
   -- rings that were given one recorder more are those that they were
-  pub paired_given : (old new : List (Ring N C H G)) (theirs : List (SharedRecorder N C H G)) (recorders : List (PageRecorder N C H G))
+  pub paired_given : (old new : List (Ring N C H G)) (theirs : List (SharedRecorder N C H G)) (recorders : List (PageRecorder N C
+      H G))
       → AreGiven old new theirs → ArePaired old recorders → ArePaired new recorders
   paired_given old new theirs recorders given paired k q r at_q at_r =
       let within = slice_get_within new k q at_q in

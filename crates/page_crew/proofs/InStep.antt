@@ -15,7 +15,8 @@ use Rattle.page_crew.proofs.Further.{unchanged_from}
 
 module _ {N C H G : ℕ} where
   did_after : (old mid new : PageCrew N C H G) → IsUnchanged mid new
-      → (Did : PageView (SharedScanner N C H G) → PageView (SharedScanner N C H G) → Type 0) → PageDid old mid Did → PageDid old new Did
+      → (Did : PageView (SharedScanner N C H G) → PageView (SharedScanner N C H G) → Type 0) → PageDid old mid Did → PageDid old
+      new Did
   did_after old mid new same Did did = (
     (same.0.0 ∙ did.0.0, same.0.1 ∙ did.0.1),
     subst (λ (p : PageView (SharedScanner N C H G)). Did (page_of old) p) (sym same.1) did.1,
@@ -26,13 +27,24 @@ module _ {N C H G : ℕ} where
     further_after : (kind : Kind) (many : ℕ) (why : PageChildFault) → IsRefusedFurther old mid number kind many why
         → IsRefusedFurther old new number kind many why
     further_after kind many why (inl none) = inl (none.0, none.1, unchanged_from old mid new none.2 same)
-    further_after kind many why (inr (memory, few, some, inl none)) = inr (memory, few, some, inl (unchanged_from old mid new none same))
+    further_after kind many why (inr (memory, few, some, inl none)) = inr (
+      memory,
+      few,
+      some,
+      inl (unchanged_from old mid new none
+          same),
+    )
     further_after kind many why (inr (memory, few, some, inr (far, grown, did))) =
         inr (memory, few, some, inr (far, grown, did_after far mid new same (λ a b. LeavesPage C H G a b number NoMemory) did))
 
     pub refused_after : (values : List (List ℕ)) (why : PageChildFault) → IsRefusedByCrew old mid number values why
         → IsRefusedByCrew old new number values why
-    refused_after values why (inl (fault, other, did)) = inl (fault, other, did_after old mid new same (λ a b. LeavesPage C H G a b number why) did)
+    refused_after values why (inl (fault, other, did)) = inl (
+      fault,
+      other,
+      did_after old mid new same (λ a b. LeavesPage C H G a
+          b number why) did,
+    )
     refused_after values why (inr (kind, many, full, further)) = inr (kind, many, full, further_after kind many why further)
 
     boards_after : news_of new ≡ news_of mid → HasToldBoards old mid number → HasToldBoards old new number
@@ -43,7 +55,8 @@ module _ {N C H G : ℕ} where
 
     -- the family had so many parts before
     pub in_step : (before : ℕ) → before ≡ parts_in (page_of old) number
-        → (parts_in (page_of mid) number ≡ before → news_of new ≡ news_of mid) → (parts_in (page_of mid) number ≢ before → news_of new ≡ [])
+        → (parts_in (page_of mid) number ≡ before → news_of new ≡ news_of mid) → (parts_in (page_of mid) number ≢ before → news_of
+        new ≡ [])
         → HasToldBoards old mid number → HasToldRefused old new number
     in_step before had still gone told =
         let is : parts_in (page_of new) number ≡ parts_in (page_of mid) number =

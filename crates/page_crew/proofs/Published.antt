@@ -1,5 +1,6 @@
 -- Recorders of a page one after the other, and what they have published together on a board.
-use Rattle.std.proofs.Common.{◌≡◌, ℕ, zero, suc, ◌+◌, ◌≤◌, List, [], ◌∷◌, ◌++◌, length, map, drop, refl, sym, ap, subst, ◌∙◌, arith}
+use Rattle.std.proofs.Common.{◌≡◌, ℕ, zero, suc, ◌+◌, ◌≤◌, List, [], ◌∷◌, ◌++◌, length, map, drop, refl, sym, ap, subst, ◌∙◌}
+use Rattle.std.proofs.Common.{arith}
 use mathlib.Core.Option.{some, some-injective, some-ne-none}
 use lib.ListN.{get_elem?}
 use Rattle.std.proofs.Math.ListN.{drop_of_length-le}
@@ -21,12 +22,15 @@ module _ {N C H G : ℕ} (board : ℕ) where
   -- the workers of recorders are that of the first, and those of the others
   next_workers : (r : PageRecorder N C H G) (s : SharedRecorder N C H G) (rs : List (PageRecorder N C H G)) → CountsWith board r s
       → workers_on board (r ∷ rs) ≡ worker_in s ∷ workers_on board rs
-  next_workers r s rs counts = ap (λ (l : List (SharedRecorder N C H G)). map worker_in l ++ workers_on board rs) (one_on board r s counts)
+  next_workers r s rs counts = ap (λ (l : List (SharedRecorder N C H G)). map worker_in l ++ workers_on board rs) (one_on board r
+      s counts)
 
   -- what those from a place on have published is what the one there has, and those behind it
-  pub next_published : (rs : List (PageRecorder N C H G)) (p q k : ℕ) (r : PageRecorder N C H G) (s : SharedRecorder N C H G) → suc p ≡ q
+  pub next_published : (rs : List (PageRecorder N C H G)) (p q k : ℕ) (r : PageRecorder N C H G) (s : SharedRecorder N C H G) →
+      suc p ≡ q
       → get_elem? rs p ≡ some r → CountsWith board r s
-      → published_on board (drop p rs) k ≡ word_after (sum_ops C H) (member_of (worker_in s)).work.made k + published_on board (drop q rs) k
+      → published_on board (drop p rs) k ≡ word_after (sum_ops C H) (member_of (worker_in s)).work.made k + published_on board
+      (drop q rs) k
   next_published rs p q k r s next at counts =
       ap (λ (l : List (PageRecorder N C H G)). published_on board l k) (drop_next rs p r at)
       ∙ (ap (λ (l : List (Worker N C H G)). sum_ops C H (made_all l) k) (next_workers r s (drop (suc p) rs) counts)
@@ -38,7 +42,8 @@ module _ {N C H G : ℕ} (board : ℕ) where
   none_published rs p k few = ap (λ (l : List (PageRecorder N C H G)). published_on board l k) (drop_of_length-le rs few)
 
   -- the recorder at a place counts there with one
-  pub with_one : (rs : List (PageRecorder N C H G)) → AreAll board rs → (p : ℕ) (r : PageRecorder N C H G) → get_elem? rs p ≡ some r
+  pub with_one : (rs : List (PageRecorder N C H G)) → AreAll board rs → (p : ℕ) (r : PageRecorder N C H G) → get_elem? rs p ≡ some
+      r
       → (s : SharedRecorder N C H G) × CountsWith board r s × (index_of (worker_in s) ≡ p)
   with_one rs all p r at =
       let lt = at_below rs p r at in let many = all.many in
@@ -57,7 +62,11 @@ module _ {N C H G : ℕ} (board : ℕ) where
   are_few [] all = omega arith
   are_few (r ∷ rs) all =
       let many = all.many in
-      let (s, counts, is) = with_one (r ∷ rs) all 0 r refl in let most = (worker_in s).geometry.workers.1 in omega (arith, many, most)
+      let (s, counts, is) = with_one (r ∷ rs) all 0 r refl in let most = (worker_in s).geometry.workers.1 in omega (
+        arith,
+        many,
+        most,
+      )
 
   -- this worker is that with which the recorder at its place counts
   abbrev Found : List (PageRecorder N C H G) → ℕ → Worker N C H G → Type 0
@@ -74,7 +83,8 @@ module _ {N C H G : ℕ} (board : ℕ) where
   pub worker_at : (rs : List (PageRecorder N C H G))
       → ((p : ℕ) (r : PageRecorder N C H G) → get_elem? rs p ≡ some r → (s : SharedRecorder N C H G) × CountsWith board r s)
       → (p : ℕ) (w : Worker N C H G) → get_elem? (workers_on board rs) p ≡ some w
-      → (r : PageRecorder N C H G) × (s : SharedRecorder N C H G) × (get_elem? rs p ≡ some r) × CountsWith board r s × (worker_in s ≡ w)
+      → (r : PageRecorder N C H G) × (s : SharedRecorder N C H G) × (get_elem? rs p ≡ some r) × CountsWith board r s × (worker_in
+      s ≡ w)
   worker_at [] each p w at = absurd (some-ne-none w (sym at))
   worker_at (r ∷ rs) each p w at =
       let (s, counts) = each 0 r refl in

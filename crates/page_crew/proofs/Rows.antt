@@ -1,5 +1,6 @@
 -- Recorders of boards whose ids follow each other.
-use Rattle.std.proofs.Common.{◌≡◌, ◌≢◌, ℕ, ◌+◌, ◌<◌, ◌≤◌, List, [], ◌∷◌, ◌++◌, Some, length, slice_get, get_or, set, All, refl, sym, ap, subst, ◌∙◌, arith, inl, inr}
+use Rattle.std.proofs.Common.{◌≡◌, ◌≢◌, ℕ, ◌+◌, ◌<◌, ◌≤◌, List, [], ◌∷◌, ◌++◌, Some, length, slice_get, get_or, set, All}
+use Rattle.std.proofs.Common.{refl, sym, ap, subst, ◌∙◌, arith, inl, inr}
 use Rattle.std.specs.Prelude.{Option, None, IsSomeAnd}
 use Rattle.std.proofs.lemmas.Option.{slice_get-get_or, get_or_from_slice_get}
 use Rattle.ledger_core.proofs.Placing.{at_push, at_set}
@@ -38,7 +39,8 @@ module _ {N C H G : ℕ} (first : ℕ) (recorders : List (SharedRecorder N C H G
   ]
 
 -- the one at this place did something
-pub one_did : {N C H G : ℕ} (id : ℕ) (old mid : List (SharedRecorder N C H G)) (Did : SharedRecorder N C H G → SharedRecorder N C H G → Type 0)
+pub one_did : {N C H G : ℕ} (id : ℕ) (old mid : List (SharedRecorder N C H G)) (Did : SharedRecorder N C H G → SharedRecorder N C
+    H G → Type 0)
     (place : ℕ) (before after : SharedRecorder N C H G) → (came : List (SharedRecorder N C H G)) × (mid ≡ old ++ came)
     → slice_get mid place ≡ Some before → id_in before ≡ id → IsSameSeat before after → Did before after
     → OneDid id old (set mid place after) Did

@@ -1,5 +1,6 @@
 -- Calls of a page keep the ids of its boards, and how many they are.
-use Rattle.std.proofs.Common.{◌≡◌, ℕ, zero, suc, ◌+◌, ◌<◌, ◌≤◌, List, [], ◌∷◌, Some, length, map, slice_get, set, refl, sym, ap, subst, ◌∙◌, inl, inr}
+use Rattle.std.proofs.Common.{◌≡◌, ℕ, zero, suc, ◌+◌, ◌<◌, ◌≤◌, List, [], ◌∷◌, Some, length, map, slice_get, set, refl, sym}
+use Rattle.std.proofs.Common.{ap, subst, ◌∙◌, inl, inr}
 use Rattle.std.specs.Prelude.{Result, Ok, Err, IfOk, IfErr, OnOk, OnErr}
 use Rattle.std.specs.List.{AllZip}
 use Rattle.std.proofs.Math.ListN.{length-set}
@@ -55,7 +56,12 @@ module _ {S : Type 0} where
   keeps_set old new place a b at same is = subst (KeepsIds old) (sym is) (record {
     many = length-set old place b;
     ids = λ k x there. elim (at_set old place b k x there) [
-      | inl here ↦ (a, subst (λ n. slice_get old n ≡ Some a) (sym here.0) at, ap (λ (v : RegistryView S). v.id) (sym here.1) ∙ same)
+      | inl here ↦ (
+        a,
+        subst (λ n. slice_get old n ≡ Some a) (sym here.0) at,
+        ap (λ (v : RegistryView S). v.id) (sym here.1) ∙
+            same,
+      )
       | inr other ↦ (x, other.1, refl)
     ];
   })
@@ -71,7 +77,8 @@ module _ {S : Type 0} where
       keeps_set old new part.board did.board did.board' did.at (ap (λ (v : RegistryView S). v.id) did.made.after_it) did.boards
 
   -- ids that followed each other do so
-  pub numbered_still : (first : ℕ) (old new : List (RegistryView S)) → KeepsIds old new → AreNumbered first old → AreNumbered first new
+  pub numbered_still : (first : ℕ) (old new : List (RegistryView S)) → KeepsIds old new → AreNumbered first old → AreNumbered
+      first new
   numbered_still first old new keeps numbered k b at = let a = keeps.ids k b at in a.2 ∙ numbered k a.0 a.1
 
   -- there is as much room as there was
@@ -157,7 +164,8 @@ module _ {S : Type 0} where
       (keeps_zip a.boards (map (with_window window) a.boards) (same_windowed window a.boards))
 
 -- what is so of a page's owner stays so, where the boards keep their ids
-module _ {N C H G : ℕ} (old : PageCrew N C H G) (page : PageView (SharedScanner N C H G)) (keeps : KeepsIds old.page.boards page.boards) where
+module _ {N C H G : ℕ} (old : PageCrew N C H G) (page : PageView (SharedScanner N C H G)) (keeps : KeepsIds old.page.boards
+    page.boards) where
   abbrev pub Holds : (window : ℕ) (news : List (NewsRing N C H G)) → Type 0
   Holds window news = record {
     numbered : AreNumbered old.first page.boards;

@@ -1,5 +1,6 @@
 -- What scrapers are told, and do, one thing after the other.
-use Rattle.std.proofs.Common.{◌≡◌, ℕ, zero, suc, ◌<◌, List, [], ◌∷◌, ◌++◌, length, map, get_or, All, Box, refl, sym, ap, subst, ◌∙◌, arith, inl, inr, append-nil, append_assoc}
+use Rattle.std.proofs.Common.{◌≡◌, ℕ, zero, suc, ◌<◌, List, [], ◌∷◌, ◌++◌, length, map, get_or, All, Box, refl, sym, ap}
+use Rattle.std.proofs.Common.{subst, ◌∙◌, arith, inl, inr, append-nil, append_assoc}
 use Rattle.std.specs.Prelude.{Result, Ok, Err, OnOk, OnErr, ◌≢◌}
 use Rattle.std.specs.declared.alloc.Global.{Global}
 use Rattle.std.proofs.lemmas.List.{map-append, length-map}
@@ -10,7 +11,8 @@ use Rattle.scrape_page.specs.Faults.{IsPageFamilyFault}
 use Rattle.scrape_page.specs.declared.fault.PageFamilyFault.{PageFamilyFault}
 use Rattle.scrape_page.specs.declared.fault.PageFamilyFault.TheVariants.{TooManyFamilies, NoMemory}
 use Rattle.rtrb.specs.Ring.{received, known_items, SameConsumer, ConsumerLooked, IsPair}
-use Rattle.page_crew.specs.News.{NewsRing, NewsFeed, ScraperView, unboxed, of_board, IsOver, IsBoardNews, TakesFamily, IsDone, AreDone, IsBegun}
+use Rattle.page_crew.specs.News.{NewsRing, NewsFeed, ScraperView, unboxed, of_board, IsOver, IsBoardNews, TakesFamily}
+use Rattle.page_crew.specs.News.{IsDone, AreDone, IsBegun}
 use Rattle.page_crew.specs.Following.{page_in, news_in, held_in, HasFollowed, HasCaughtUp, IsBehind, AreTuned}
 use Rattle.page_crew.specs.declared.news.PageNews.{PageNews}
 use Rattle.page_crew.specs.declared.page_scraper.PageScraper.{PageScraper}
@@ -20,7 +22,8 @@ use Rattle.register_rule.specs.declared.board.Board.{Board}
 use Rattle.page_crew.specs.declared.shared_scanner.SharedScanner.{SharedScanner}
 
 -- nothing is left
-pub nothing_left : {X Y : Type 0} (f : X → Y) (done ys : List Y) (rest : List X) → length rest ≡ 0 → done ++ map f rest ≡ ys → done ≡ ys
+pub nothing_left : {X Y : Type 0} (f : X → Y) (done ys : List Y) (rest : List X) → length rest ≡ 0 → done ++ map f rest ≡ ys →
+    done ≡ ys
 nothing_left f done ys [] none is = sym (append-nil done) ∙ is
 nothing_left f done ys (x ∷ rest) none is = absurd (omega (arith, none))
 
@@ -43,7 +46,8 @@ on_err (Ok a) p = tt
 on_err (Err e) p = p
 
 -- the page refused a family, for another reason than memory
-pub not_registered : {N C H G : ℕ} (a b : ScraperView N C H G) (desc copy : Descriptor) (group : ℕ) (fault : PageFamilyFault) → copy ≡ desc
+pub not_registered : {N C H G : ℕ} (a b : ScraperView N C H G) (desc copy : Descriptor) (group : ℕ) (fault : PageFamilyFault) →
+    copy ≡ desc
     → fault ≡ TooManyFamilies → IsPageFamilyFault a.families copy fault → b ≡ a → TakesFamily desc group a b
 not_registered a b desc copy group fault same is why unchanged =
     inr (
@@ -96,7 +100,8 @@ module _ {N C H G : ℕ} where
   }
 
   -- what came first, and what came then
-  pub followed_then : (a b c : PageScraper N C H G) (reached : ScraperView N C H G) → HasFollowed a b (page_in b) → HasFollowed b c reached
+  pub followed_then : (a b c : PageScraper N C H G) (reached : ScraperView N C H G) → HasFollowed a b (page_in b) → HasFollowed b
+      c reached
       → HasFollowed a c reached
   followed_then a b c reached one two = record {
     came = one.came ++ two.came;
@@ -121,7 +126,8 @@ module _ {N C H G : ℕ} where
     begun = two.begun;
   }
 
-  pub caught_then : (a b c : PageScraper N C H G) → HasFollowed a b (page_in b) → HasCaughtUp b c (page_in c) → HasCaughtUp a c (page_in c)
+  pub caught_then : (a b c : PageScraper N C H G) → HasFollowed a b (page_in b) → HasCaughtUp b c (page_in c) → HasCaughtUp a c
+      (page_in c)
   caught_then a b c one two = record {
     followed = followed_then a b c (page_in c) one two.followed;
     none_held = two.none_held;
@@ -129,7 +135,8 @@ module _ {N C H G : ℕ} where
   }
 
   -- its page changed then
-  pub caught_still : (a b c : PageScraper N C H G) (reached : ScraperView N C H G) → HasCaughtUp a b reached → news_in c ≡ news_in b
+  pub caught_still : (a b c : PageScraper N C H G) (reached : ScraperView N C H G) → HasCaughtUp a b reached → news_in c ≡ news_in
+      b
       → held_in c ≡ held_in b → HasCaughtUp a c reached
   caught_still a b c reached caught news held = record {
     followed = record {
@@ -145,7 +152,8 @@ module _ {N C H G : ℕ} where
   }
 
   -- it held one thing
-  module _ (old new : PageScraper N C H G) (it : PageNews N C H G) (held : held_in old ≡ it ∷ []) (news : news_in new ≡ news_in old) where
+  module _ (old new : PageScraper N C H G) (it : PageNews N C H G) (held : held_in old ≡ it ∷ []) (news : news_in new ≡ news_in
+      old) where
     -- and did it
     pub held_done : held_in new ≡ [] → IsDone it (page_in old) (page_in new) → HasFollowed old new (page_in new)
     held_done none did = record {
@@ -179,14 +187,17 @@ module _ {N C H G : ℕ} where
     held_ok (Ok a) none did = held_done none did
     held_ok (Err e) none did = tt
 
-    pub held_err : {A E : Type 0} (r : Result A E) → OnErr r (held_in new ≡ it ∷ []) → OnErr r (IsBegun it (page_in old) (page_in new))
+    pub held_err : {A E : Type 0} (r : Result A E) → OnErr r (held_in new ≡ it ∷ []) → OnErr r (IsBegun it (page_in old) (page_in
+        new))
         → OnErr r (IsBehind old new)
     held_err (Ok a) still begun = tt
     held_err (Err e) still begun = held_still still begun
 
   -- one thing came out of its ring
-  module _ (old new : PageScraper N C H G) (it : Box (PageNews N C H G) Global) (feed : NewsFeed N C H G) (none : held_in old ≡ [])
-      (out : received feed ≡ received (news_in old) ++ it ∷ []) (same : SameConsumer (news_in old) feed) (news : news_in new ≡ feed) where
+  module _ (old new : PageScraper N C H G) (it : Box (PageNews N C H G) Global) (feed : NewsFeed N C H G) (none : held_in old ≡
+      [])
+      (out : received feed ≡ received (news_in old) ++ it ∷ []) (same : SameConsumer (news_in old) feed) (news : news_in new ≡
+      feed) where
     taken : received (news_in new) ≡ received (news_in old) ++ it ∷ []
     taken = ap (λ (f : NewsFeed N C H G). received f) news ∙ out
 
@@ -222,8 +233,10 @@ module _ {N C H G : ℕ} where
     }
 
   -- one ring more, and its scraper
-  pub tuned_more : (rings : List (NewsRing N C H G)) (scrapers : List (PageScraper N C H G)) (p : NewsRing N C H G) (s : PageScraper N C H G)
-      → length rings ≡ length scrapers → AreTuned rings scrapers → IsPair p (news_in s) → AreTuned (rings ++ p ∷ []) (scrapers ++ s ∷ [])
+  pub tuned_more : (rings : List (NewsRing N C H G)) (scrapers : List (PageScraper N C H G)) (p : NewsRing N C H G) (s :
+      PageScraper N C H G)
+      → length rings ≡ length scrapers → AreTuned rings scrapers → IsPair p (news_in s) → AreTuned (rings ++ p ∷ []) (scrapers ++
+      s ∷ [])
   tuned_more rings scrapers p s many tuned pair k q t at_q at_t = elim (at_push rings p k q at_q) [
     | inl here ↦ elim (at_push scrapers s k t at_t) [
       | inl also ↦ subst (λ (x : NewsRing N C H G). IsPair x (news_in t)) here.1
@@ -238,7 +251,8 @@ module _ {N C H G : ℕ} where
 
   -- each of the news says that its board came
   pub board_said : (board : Board N C H G) (id : ℕ) (registries : List (RegistryView (SharedScanner N C H G)))
-      (news : List (Box (PageNews N C H G) Global)) → map unboxed news ≡ map of_board registries → All (IsOver board id) registries
+      (news : List (Box (PageNews N C H G) Global)) → map unboxed news ≡ map of_board registries → All (IsOver board id)
+      registries
       → All (λ (it : Box (PageNews N C H G) Global). IsBoardNews board id (unboxed it)) news
   board_said board id registries news is over =
       from_map news (subst (λ (l : List (PageNews N C H G)). All (IsBoardNews board id) l) (sym is)

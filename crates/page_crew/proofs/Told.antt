@@ -1,5 +1,6 @@
 -- What the owner of a page tells its scrapers.
-use Rattle.std.proofs.Common.{◌≡◌, ◌≢◌, ℕ, zero, suc, ◌+◌, ◌<◌, ◌≤◌, List, [], ◌∷◌, ◌++◌, Some, length, slice_get, set, All, Box, refl, sym, ap, subst, ◌∙◌, arith, inl, inr}
+use Rattle.std.proofs.Common.{◌≡◌, ◌≢◌, ℕ, zero, suc, ◌+◌, ◌<◌, ◌≤◌, List, [], ◌∷◌, ◌++◌, Some, length, slice_get, set, All}
+use Rattle.std.proofs.Common.{Box, refl, sym, ap, subst, ◌∙◌, arith, inl, inr}
 use Rattle.std.specs.Prelude.{◌⊎◌, Result, Ok, Err, IfOk, IfErr, OnErr, Option, None, MatchOption}
 use Rattle.std.specs.declared.alloc.Global.{Global}
 use Rattle.std.specs.Arc.{arc_value}
@@ -39,7 +40,8 @@ children_is families number count it is has =
 has_children : (families : List PageFamily) (number : ℕ) (it : PageFamily) → slice_get families number ≡ Some it
     → HasChildren families number it.children
 has_children families number it is =
-    subst (λ (o : Option PageFamily). MatchOption o (it.children ≡ 0) (λ (f : PageFamily). it.children ≡ f.children)) (sym is) refl
+    subst (λ (o : Option PageFamily). MatchOption o (it.children ≡ 0) (λ (f : PageFamily). it.children ≡ f.children)) (sym is)
+    refl
 
 module _ {S : Type 0} (c h g : ℕ) (number : ℕ) (values : List (List ℕ)) (handle : Handle) where
   -- a child more, where one was made
@@ -50,15 +52,18 @@ module _ {S : Type 0} (c h g : ℕ) (number : ℕ) (values : List (List ℕ)) (h
       let more : PageFamily = record family { children = family.children + 1 } in
       let had : before ≡ family.children = children_is a.families number before family made.it was in
       let there : slice_get b.families number ≡ Some more =
-      subst (λ (l : List PageFamily). slice_get l number ≡ Some more) (sym made.families) (set_at a.families number family more made.it) in
+      subst (λ (l : List PageFamily). slice_get l number ≡ Some more) (sym made.families) (set_at a.families number family more
+      made.it) in
       let has : after ≡ family.children + 1 = children_is b.families number after more there is in
       omega (arith, had, has)
 
-  more_there : (a b : PageView S) → WasMadeThere c h g a b number values handle → (before after : ℕ) → HasChildren a.families number before
+  more_there : (a b : PageView S) → WasMadeThere c h g a b number values handle → (before after : ℕ) → HasChildren a.families
+      number before
       → HasChildren b.families number after → after ≡ before + 1
   more_there a b made before after was is = one_more a b (made.part, made.made) before after was is
 
-  more_further : (a b : PageView S) → WasMadeFurther c h g a b number values handle → (before after : ℕ) → HasChildren a.families number before
+  more_further : (a b : PageView S) → WasMadeFurther c h g a b number values handle → (before after : ℕ) → HasChildren a.families
+      number before
       → HasChildren b.families number after → after ≡ before + 1
   more_further a b made before after was is =
       let mid = made.mid in
@@ -67,16 +72,22 @@ module _ {S : Type 0} (c h g : ℕ) (number : ℕ) (values : List (List ℕ)) (h
       let wider : PageFamily = record family { parts = family.parts ++ made.part ∷ [] } in
       let had : before ≡ family.children = children_is a.families number before family took.it was in
       let there : slice_get mid.families number ≡ Some wider =
-      subst (λ (l : List PageFamily). slice_get l number ≡ Some wider) (sym took.families) (set_at a.families number family wider took.it) in
+      subst (λ (l : List PageFamily). slice_get l number ≡ Some wider) (sym took.families) (set_at a.families number family wider
+      took.it) in
       one_more mid b (made.part, made.made) before after
       (subst (λ (o : Option PageFamily). MatchOption o (before ≡ 0) (λ (f : PageFamily). before ≡ f.children)) (sym there) had) is
 
-  module _ (a b : PageView S) (before after : ℕ) (was : HasChildren a.families number before) (is : HasChildren b.families number after) where
+  module _ (a b : PageView S) (before after : ℕ) (was : HasChildren a.families number before) (is : HasChildren b.families number
+      after) where
     -- it has as many as before, so the child was there
     pub was_found : after ≡ before → IsGivenOnPage c h g a b number values handle → WasFound c h g a b number values handle
     was_found same (inl found) = found
     was_found same (inr (inl there)) = absurd (let more = more_there a b there before after was is in omega (arith, same, more))
-    was_found same (inr (inr further)) = absurd (let more = more_further a b further before after was is in omega (arith, same, more))
+    was_found same (inr (inr further)) = absurd (let more = more_further a b further before after was is in omega (
+      arith,
+      same,
+      more,
+    ))
 
     -- it has others, so it was made
     pub was_made : after ≢ before → IsGivenOnPage c h g a b number values handle
@@ -99,7 +110,8 @@ found_still : {S : Type 0} (c h g : ℕ) (number : ℕ) (values : List (List ℕ
 found_still c h g number values handle a (inl found) = found
 found_still c h g number values handle a (inr (inl there)) =
     let has = has_children a.families number there.made.family there.made.it in
-    absurd (let more = more_there c h g number values handle a a there there.made.family.children there.made.family.children has has in
+    absurd (let more = more_there c h g number values handle a a there there.made.family.children there.made.family.children has
+    has in
     omega (arith, more))
 found_still c h g number values handle a (inr (inr further)) =
     let took = further.taken.taken in
@@ -124,12 +136,14 @@ module _ {N C H G : ℕ} where
   told_there crew number values (Err why) given = tt
 
   -- rings were given what was ready for them
-  module _ (Says : PageNews N C H G → Type 0) (old was lent lent' new : List (NewsRing N C H G)) (news : List (Box (PageNews N C H G) Global))
+  module _ (Says : PageNews N C H G → Type 0) (old was lent lent' new : List (NewsRing N C H G)) (news : List (Box (PageNews N C H
+      G) Global))
       (was_is : was ≡ old) (lent_is : lent ≡ old) (new_is : new ≡ lent') (ready : AreReady Says was news) where
     pub may_tell : (length news ≡ length lent) × All (λ (p : NewsRing N C H G). 0 < known_free p) lent
     may_tell = (
       ready.many ∙ ap length (was_is ∙ sym lent_is),
-      subst (λ (l : List (NewsRing N C H G)). All (λ (p : NewsRing N C H G). 0 < known_free p) l) (was_is ∙ sym lent_is) ready.room,
+      subst (λ (l : List (NewsRing N C H G)). All (λ (p : NewsRing N C H G). 0 < known_free p) l) (was_is ∙ sym lent_is)
+          ready.room,
     )
 
     pub are_told : AreGiven lent lent' news → AreTold Says old new
@@ -140,7 +154,8 @@ module _ {N C H G : ℕ} where
       says = ready.says;
     }
 
-  pub as_many : (Says : PageNews N C H G → Type 0) (old new : List (NewsRing N C H G)) → AreTold Says old new → length old ≤ 3 → length new ≤ 3
+  pub as_many : (Says : PageNews N C H G → Type 0) (old new : List (NewsRing N C H G)) → AreTold Says old new → length old ≤ 3 →
+      length new ≤ 3
   as_many Says old new told few = let many = told.given.many in omega (arith, many, few)
 
   module _ (old mid new : PageCrew N C H G) (same : IsUnchanged old mid) (news : news_of mid ≡ news_of old) where
@@ -186,14 +201,16 @@ module _ {N C H G : ℕ} where
         inl ((child_keeps C H G (page_of old) (page_of new) number values (Err why) tt leaves.1).many, news)
 
   -- nothing had changed before
-  module _ (old mid : PageCrew N C H G) (same : IsUnchanged old mid) (news : news_of mid ≡ news_of old) (new : PageCrew N C H G) (number : ℕ)
+  module _ (old mid : PageCrew N C H G) (same : IsUnchanged old mid) (news : news_of mid ≡ news_of old) (new : PageCrew N C H G)
+      (number : ℕ)
       (values : List (List ℕ)) where
     pub told_then : (r : Result Handle PageChildFault) → IfOk r (HasToldFurther mid new number values)
         → IfOk r (HasToldGiven old new number values)
     told_then (Ok handle) (far, grew, told) = inr (far, grew_from old mid far same news grew, told)
     told_then (Err why) told = tt
 
-    pub untold_then : (r : Result Handle PageChildFault) → OnErr r (HasToldBoards mid new number) → OnErr r (HasToldBoards old new number)
+    pub untold_then : (r : Result Handle PageChildFault) → OnErr r (HasToldBoards mid new number) → OnErr r (HasToldBoards old new
+        number)
     untold_then (Ok handle) told = tt
     untold_then (Err why) (inl none) =
         inl (none.0 ∙ ap (λ (p : PageView (SharedScanner N C H G)). length p.boards) same.1, none.1 ∙ news)

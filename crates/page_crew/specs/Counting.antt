@@ -40,11 +40,13 @@ module _ {N C H G : ℕ} where
 
   -- the recorders are those that were taken out of a ring, in order: each is of the same board and of the same worker
   abbrev pub AreTaken : (taken recorders : List (SharedRecorder N C H G)) → Type 0
-  AreTaken taken recorders = (length recorders ≡ length taken) × ((k : ℕ) (t r : SharedRecorder N C H G) → slice_get taken k ≡ Some t
+  AreTaken taken recorders = (length recorders ≡ length taken) × ((k : ℕ) (t r : SharedRecorder N C H G) → slice_get taken k ≡
+      Some t
       → slice_get recorders k ≡ Some r → IsSameSeat t r)
 
   -- Boards may have come. The recorder of the board of this id did this, and each other one is as it was
-  pub record OneDid (id : ℕ) (old new : List (SharedRecorder N C H G)) (Did : SharedRecorder N C H G → SharedRecorder N C H G → Type 0)
+  pub record OneDid (id : ℕ) (old new : List (SharedRecorder N C H G)) (Did : SharedRecorder N C H G → SharedRecorder N C H G →
+      Type 0)
       : Type 0 where
     pub came : List (SharedRecorder N C H G)
     pub place : ℕ
@@ -61,7 +63,8 @@ module _ {N C H G : ℕ} where
   NoneIs id old new = ((came : List (SharedRecorder N C H G)) × (new ≡ old ++ came))
       × All (λ (r : SharedRecorder N C H G). id_in r ≢ id) new
 
-  -- these operations were published as one version, which the worker's row accepts, and its number was not the greatest that there is
+  -- these operations were published as one version, which the worker's row accepts, and its number was not the greatest that
+  -- there is
   pub record IsPublished (ops : List Op) (before after : SharedRecorder N C H G) : Type 0 where
     pub updated : IsUpdated N C H G (index_of (worker_in before)) ops (member_of (worker_in before)) (member_of (worker_in after))
     pub lists : lists_of (worker_in after) ≡ lists_of (worker_in before) ++ ops ∷ []
@@ -78,7 +81,8 @@ module _ {N C H G : ℕ} where
   abbrev pub IsPublishedOn : (id : ℕ) → List Op → (old new : List (SharedRecorder N C H G)) → Type 0
   IsPublishedOn id ops old new = OneDid id old new (IsPublished ops)
 
-  -- why they were not: none that it has is of the board of this id, after those that came; or that board's worker has refused them
+  -- why they were not: none that it has is of the board of this id, after those that came; or that board's worker has refused
+  -- them
   abbrev pub IsRefusedOn : (id : ℕ) → List Op → (old new : List (SharedRecorder N C H G)) → CountFault → Type 0
   IsRefusedOn id ops old new WrongRegistry = NoneIs id old new
   IsRefusedOn id ops old new (Apply fault) = OneDid id old new (IsRefused ops (Apply fault))

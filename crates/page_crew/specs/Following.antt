@@ -1,5 +1,6 @@
 -- What contracts see of a scraper, and what it does.
-use Rattle.std.specs.Prelude.{◌≡◌, ℕ, ◌⊎◌, List, [], ◌∷◌, ◌++◌, map, length, slice_get, All, Some, option_to_list, Box, Result, Err}
+use Rattle.std.specs.Prelude.{◌≡◌, ℕ, ◌⊎◌, List, [], ◌∷◌, ◌++◌, map, length, slice_get, All, Some, option_to_list, Box}
+use Rattle.std.specs.Prelude.{Result, Err}
 use Rattle.std.specs.declared.alloc.Global.{Global}
 use Rattle.expo_text.specs.Scraped.{Scraped}
 use Rattle.register_rule.specs.declared.board.Board.{Board}
@@ -27,8 +28,8 @@ module _ {N C H G : ℕ} where
   abbrev pub held_in : PageScraper N C H G → List (PageNews N C H G)
   held_in s = option_to_list s.held
 
-  -- It took what came out of its ring, which is the same, in order; of that, and of what it held before, it did all but what it holds now: its page
-  -- became this one by it
+  -- It took what came out of its ring, which is the same, in order; of that, and of what it held before, it did all but what it
+  -- holds now: its page became this one by it
   pub record HasFollowed (old new : PageScraper N C H G) (reached : ScraperView N C H G) : Type 0 where
     pub came : List (Box (PageNews N C H G) Global)
     pub done : List (PageNews N C H G)
@@ -51,7 +52,8 @@ module _ {N C H G : ℕ} where
     pub held : held_in new ≡ next ∷ []
     pub begun : IsBegun next reached (page_in new)
 
-  -- what one scrape does, and answers: it catches up, and then does what its page's scrape does; or there was no memory to catch up
+  -- what one scrape does, and answers: it catches up, and then does what its page's scrape does; or there was no memory to catch
+  -- up
   abbrev pub ScrapesByScraper : (old new : PageScraper N C H G) → Result Scraped NoScrape → Type 0
   ScrapesByScraper old new result =
       ((mid : ScraperView N C H G) × HasCaughtUp old new mid
@@ -71,8 +73,8 @@ module _ {N C H G : ℕ} where
   AreTuned rings scrapers = (k : ℕ) (p : NewsRing N C H G) (s : PageScraper N C H G) → slice_get rings k ≡ Some p
       → slice_get scrapers k ≡ Some s → IsPair p (news_in s)
 
-  -- So many rings to which nothing was given, each with room for all that a page can ever tell, 95 boards, 128 families and 256 children of each; and a
-  -- scraper for each, with a page of a registry of its own over this board, of this id
+  -- So many rings to which nothing was given, each with room for all that a page can ever tell, 95 boards, 128 families and 256
+  -- children of each; and a scraper for each, with a page of a registry of its own over this board, of this id
   pub record AreScrapers (many : ℕ) (board : Board N C H G) (id : ℕ) (rings : List (NewsRing N C H G))
       (scrapers : List (PageScraper N C H G)) : Type 0 where
     pub rings_many : length rings ≡ many

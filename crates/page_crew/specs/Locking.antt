@@ -15,8 +15,8 @@ module _ {N C H G : ℕ} where
   abbrev pub id_of : PageRegistry N C H G → ℕ
   id_of r = r.first
 
-  -- a board's journal replays to its families; its kept scrapes are at most its window, the last that its reader recorded, and moments of one
-  -- history of publishes
+  -- a board's journal replays to its families; its kept scrapes are at most its window, the last that its reader recorded, and
+  -- moments of one history of publishes
   abbrev pub IsKeptBoard : RegistryView (SharedScanner N C H G) → Type 0
   IsKeptBoard board = IsKept N C H G (recorded_in board.source) board.journal board.window board.state
 
@@ -35,8 +35,8 @@ IsOfPage first (Handle.Counter counter) = IsIdOf first counter.registry
 IsOfPage first (Handle.Histogram hist) = IsIdOf first hist.registry
 IsOfPage first (Handle.Gauge gauge) = IsIdOf first gauge.registry
 
--- Each board of a page was scraped, once or again where a scan was given up, and this is what they show together: of each board its families and
--- their numbers at its newest scrape, a moment of a history of publishes
+-- Each board of a page was scraped, once or again where a scan was given up, and this is what they show together: of each board
+-- its families and their numbers at its newest scrape, a moment of a history of publishes
 pub record HasMoments (n c h g : ℕ) (whole : Scraped) : Type 0 where
   pub before : PageView (SharedScanner n c h g)
   pub after : PageView (SharedScanner n c h g)

@@ -74,7 +74,8 @@ module _ {N C H G : ℕ} where
   IsChildNews number values (Tells.Child family values') = (family.number ≡ number) × (values'.items ≡ values)
 
   -- there is one thing to tell for each ring, which says this, and each ring has room for it
-  pub record AreReady (Says : PageNews N C H G → Type 0) (rings : List (NewsRing N C H G)) (news : List (Box (PageNews N C H G) Global))
+  pub record AreReady (Says : PageNews N C H G → Type 0) (rings : List (NewsRing N C H G)) (news : List (Box (PageNews N C H G)
+      Global))
       : Type 0 where
     pub many : length news ≡ length rings
     pub room : All (λ (p : NewsRing N C H G). 0 < known_free p) rings
@@ -98,7 +99,8 @@ module _ {N C H G : ℕ} where
       ((length a.boards < 96) × IsFresh a.boards board × (b ≡ record a { boards = a.boards ++ board ∷ [] }))
       ⊎ ((fault : BoardFault) × IsBoardFault a.boards board fault × (fault ≢ OfBoard.NoMemory) × (b ≡ a))
 
-  -- a family of this descriptor was registered on the page in this group; or it refused it, for another reason than memory, and is as it was
+  -- a family of this descriptor was registered on the page in this group; or it refused it, for another reason than memory, and
+  -- is as it was
   abbrev pub TakesFamily : Descriptor → (group : ℕ) → (a b : ScraperView N C H G) → Type 0
   TakesFamily desc group a b = ((home : ℕ) × IsHome C H G a desc.kind group home × AddsFamily a b desc group home)
       ⊎ ((fault : PageFamilyFault) × IsPageFamilyFault a.families desc fault × (fault ≢ OfFamily.NoMemory) × (b ≡ a))
@@ -119,8 +121,8 @@ module _ {N C H G : ℕ} where
   AreDone [] a b = b ≡ a
   AreDone (news ∷ rest) a c = (b : ScraperView N C H G) × IsDone news a b × AreDone rest b c
 
-  -- it was begun, and there was no memory, where the page would have taken it: nothing has changed, but that a family may have taken a part for its
-  -- child, without it
+  -- it was begun, and there was no memory, where the page would have taken it: nothing has changed, but that a family may have
+  -- taken a part for its child, without it
   abbrev pub IsBegun : PageNews N C H G → (a b : ScraperView N C H G) → Type 0
   IsBegun (Tells.Board registry) a b = IsBoardFault a.boards registry OfBoard.NoMemory × (b ≡ a)
   IsBegun (Tells.Family desc group) a b = IsPageFamilyFault a.families desc OfFamily.NoMemory × (b ≡ a)

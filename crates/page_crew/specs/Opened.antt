@@ -26,9 +26,10 @@ module _ {N C H G : ℕ} where
   abbrev pub lists_in : SharedRecorder N C H G → List (List Op)
   lists_in r = lists_of (worker_in r)
 
-  -- A registry of this id and window in which nothing was registered and no scrape is kept, over a board of this id; and a recorder of each
-  -- worker of it, in order, that has published nothing
-  pub record IsNewBoard (id window : ℕ) (registry : RegistryView (SharedScanner N C H G)) (recorders : List (SharedRecorder N C H G))
+  -- A registry of this id and window in which nothing was registered and no scrape is kept, over a board of this id; and a
+  -- recorder of each worker of it, in order, that has published nothing
+  pub record IsNewBoard (id window : ℕ) (registry : RegistryView (SharedScanner N C H G)) (recorders : List (SharedRecorder N C H
+      G))
       : Type 0 where
     pub id_is : registry.id ≡ id
     pub window_is : registry.window ≡ window

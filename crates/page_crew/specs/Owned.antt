@@ -1,4 +1,5 @@
--- What contracts see of a page with all who work on its boards, and what its calls do to it. What its scrapers are told is said in Told.
+-- What contracts see of a page with all who work on its boards, and what its calls do to it. What its scrapers are told is said
+-- in Told.
 use Rattle.std.specs.Prelude.{◌≡◌, ◌≢◌, ℕ, ◌+◌, ◌<◌, ◌≤◌, ◌⊎◌, List, [], ◌∷◌, ◌++◌, Some, Result, length, slice_get, All}
 use Rattle.metric_desc.specs.declared.kind.Kind.{Kind}
 use Rattle.expo_text.specs.Scraped.{Scraped}
@@ -44,8 +45,8 @@ module _ {N C H G : ℕ} where
   abbrev pub IsSameOwner : (old new : PageCrew N C H G) → Type 0
   IsSameOwner old new = (first_of new ≡ first_of old) × (window_of new ≡ window_of old)
 
-  -- A board came, behind the others, on which nothing is registered and nothing was counted; its recorders were given to the rings, that of each
-  -- worker to the ring of its number
+  -- A board came, behind the others, on which nothing is registered and nothing was counted; its recorders were given to the
+  -- rings, that of each worker to the ring of its number
   pub record IsGrown (old new : PageCrew N C H G) : Type 0 where
     pub owner : IsSameOwner old new
     pub board : RegistryView (SharedScanner N C H G)
@@ -59,7 +60,8 @@ module _ {N C H G : ℕ} where
   IsUnchanged old new = IsSameOwner old new × (page_of new ≡ page_of old) × (rings_of new ≡ rings_of old)
 
   -- the page did this, and nothing else has changed, but for what scrapers were told
-  abbrev pub PageDid : (old new : PageCrew N C H G) → (PageView (SharedScanner N C H G) → PageView (SharedScanner N C H G) → Type 0) → Type 0
+  abbrev pub PageDid : (old new : PageCrew N C H G) → (PageView (SharedScanner N C H G) → PageView (SharedScanner N C H G) → Type
+      0) → Type 0
   PageDid old new Did = IsSameOwner old new × Did (page_of old) (page_of new) × (rings_of new ≡ rings_of old)
 
   -- each board keeps so many scrapes from now on, also one that comes later; nothing else has changed
@@ -69,9 +71,9 @@ module _ {N C H G : ℕ} where
     pub page : page_of new ≡ page_with_window window (page_of old)
     pub rings : rings_of new ≡ rings_of old
 
-  -- A page of one board, without families, the first of these ids, on which nothing was counted; each board keeps so many scrapes. Each ring
-  -- was given the board's recorder of its number, and is that of the page's recorder of its number; there are as many of these, and they know no
-  -- board yet
+  -- A page of one board, without families, the first of these ids, on which nothing was counted; each board keeps so many
+  -- scrapes. Each ring was given the board's recorder of its number, and is that of the page's recorder of its number; there are
+  -- as many of these, and they know no board yet
   pub record IsOpened (first window : ℕ) (crew : PageCrew N C H G) (recorders : List (PageRecorder N C H G)) : Type 0 where
     pub first_is : first_of crew ≡ first
     pub window_is : window_of crew ≡ window
@@ -92,8 +94,8 @@ module _ {N C H G : ℕ} where
     IsGivenFurther values handle = (mid : PageCrew N C H G) × IsGrown old mid
         × PageDid mid new (λ a b. IsGivenOnPage C H G a b number values handle)
 
-    -- Why it was not, where no board had a free slot of this kind. No board may come, or none has a slot of the kind (22). Or one may and has, and
-    -- there was no memory (6): for a board, and nothing has changed; or one came, and then for the child
+    -- Why it was not, where no board had a free slot of this kind. No board may come, or none has a slot of the kind (22). Or one
+    -- may and has, and there was no memory (6): for a board, and nothing has changed; or one came, and then for the child
     abbrev pub IsRefusedFurther : Kind → ℕ → PageChildFault → Type 0
     IsRefusedFurther kind many why =
         ((why ≡ Full kind many) × ((96 ≤ length (page_of old).boards) ⊎ (slots C H G kind ≡ 0)) × IsUnchanged old new)
@@ -106,7 +108,8 @@ module _ {N C H G : ℕ} where
         ⊎ ((kind : Kind) × (many : ℕ) × IsPageChildFault C H G (page_of old) number values (Full kind many)
         × IsGivenFurther values handle)
 
-    -- why there is none: the page's refusal, but for want of slots; or no board had a free slot, and none came, or there was no memory
+    -- why there is none: the page's refusal, but for want of slots; or no board had a free slot, and none came, or there was no
+    -- memory
     abbrev pub IsRefusedByCrew : (values : List (List ℕ)) → PageChildFault → Type 0
     IsRefusedByCrew values why =
         (IsPageChildFault C H G (page_of old) number values why × ((kind : Kind) (many : ℕ) → why ≢ Full kind many)

@@ -25,8 +25,8 @@ abbrev pub publish_fault_number : PublishFault → ℕ
 publish_fault_number TwoBoards = 47
 publish_fault_number (Count fault) = count_fault_number fault
 
--- what else is so where a worker does not take what a tally has: where a word would pass 2^48 - 1, it would in whatever order it were
--- counted; 11 is never the reason
+-- what else is so where a worker does not take what a tally has: where a word would pass 2^48 - 1, it would in whatever order it
+-- were counted; 11 is never the reason
 abbrev pub IsRefusedAlike : (c h g : ℕ) → List Op → Member → ApplyFault → Type 0
 IsRefusedAlike c h g ops m Exhausted = Unit {0}
 IsRefusedAlike c h g ops m (Refused (OutOfGeometry _)) = ⊥
@@ -55,7 +55,8 @@ module _ {N C H G : ℕ} where
   abbrev pub IsFlushedOn : Tallied → (old new : List (SharedRecorder N C H G)) → Type 0
   IsFlushedOn t old new = OneDid t.registry old new (IsFlushed t.ops)
 
-  -- why it was not: none that it has is of the board of its id, after those that came; or else as for a list of operations, but never 11
+  -- why it was not: none that it has is of the board of its id, after those that came; or else as for a list of operations, but
+  -- never 11
   abbrev pub IsFlushRefused : Tallied → (old new : List (SharedRecorder N C H G)) → CountFault → Type 0
   IsFlushRefused t old new WrongRegistry = NoneIs t.registry old new
   IsFlushRefused t old new (Apply fault) = OneDid t.registry old new (λ before after. IsRefused t.ops (Apply fault) before after

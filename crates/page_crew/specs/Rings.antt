@@ -34,7 +34,8 @@ module _ {N C H G : ℕ} where
   ArePaired rings recorders = (k : ℕ) (p : Ring N C H G) (r : PageRecorder N C H G) → slice_get rings k ≡ Some p
       → slice_get recorders k ≡ Some r → IsPair p (feed_of r)
 
-  -- N rings with room for 96 each, to which nothing was given, and N recorders of a page whose first board has this id, which know no board
+  -- N rings with room for 96 each, to which nothing was given, and N recorders of a page whose first board has this id, which
+  -- know no board
   pub record AreOpen (first : ℕ) (rings : List (Ring N C H G)) (recorders : List (PageRecorder N C H G)) : Type 0 where
     pub rings_many : length rings ≡ N
     pub recorders_many : length recorders ≡ N

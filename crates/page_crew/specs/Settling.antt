@@ -65,7 +65,8 @@ module _ {N C H G : ℕ} where
 
     -- a snapshot's vector has how often each of them has published there, at its place
     abbrev pub HasNumbers : List (PageRecorder N C H G) → (vector : List ℕ) → Type 0
-    HasNumbers rs vector = (i : ℕ) (r : PageRecorder N C H G) (s : SharedRecorder N C H G) → get_elem? rs i ≡ some r → CountsWith r s
+    HasNumbers rs vector = (i : ℕ) (r : PageRecorder N C H G) (s : SharedRecorder N C H G) → get_elem? rs i ≡ some r → CountsWith
+        r s
         → get_elem? vector i ≡ some (length (member_of (worker_in s)).work.made)
 
     -- there is a recorder of each worker at its place, and this is exactly what they have published there

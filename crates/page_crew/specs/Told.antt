@@ -32,7 +32,8 @@ module _ {N C H G : ℕ} where
   pub record HasToldBoard (old new : PageCrew N C H G) : Type 0 where
     pub board : RegistryView (SharedScanner N C H G)
     pub page : page_of new ≡ record (page_of old) { boards = (page_of old).boards ++ board ∷ [] }
-    pub told : AreTold (IsBoardNews (arc_value board.source.board) (first_of old + length (page_of old).boards)) (news_of old) (news_of new)
+    pub told : AreTold (IsBoardNews (arc_value board.source.board) (first_of old + length (page_of old).boards)) (news_of old)
+        (news_of new)
 
   -- each scraper was told of a family of this descriptor in this group
   abbrev pub HasToldFamily : (old new : PageCrew N C H G) → Descriptor → (group : ℕ) → Type 0
@@ -61,21 +62,21 @@ module _ {N C H G : ℕ} where
   HasToldGiven old new number values handle =
       HasToldChild old new number values handle ⊎ HasToldFurther old new number values handle
 
-  -- Where a child of the family of this number was refused: no board came, and no scraper was told anything; or one came for it, of which each was
-  -- told, and of nothing else
+  -- Where a child of the family of this number was refused: no board came, and no scraper was told anything; or one came for it,
+  -- of which each was told, and of nothing else
   abbrev pub HasToldBoards : (old new : PageCrew N C H G) → (number : ℕ) → Type 0
   HasToldBoards old new number = ((length (page_of new).boards ≡ length (page_of old).boards) × (news_of new ≡ news_of old))
       ⊎ ((mid : PageCrew N C H G) × GrewAndTold old mid × PageDid mid new (λ a b. LeavesPage C H G a b number NoMemory)
       × (news_of new ≡ news_of mid))
 
-  -- Where a child was refused: the family has as many parts as it had, and no scraper was told anything, but of a board that came. Or it took a part
-  -- for the child, of which no scraper hears, and no scraper is told anything from now on
+  -- Where a child was refused: the family has as many parts as it had, and no scraper was told anything, but of a board that
+  -- came. Or it took a part for the child, of which no scraper hears, and no scraper is told anything from now on
   abbrev pub HasToldRefused : (old new : PageCrew N C H G) → (number : ℕ) → Type 0
   HasToldRefused old new number = ((parts_in (page_of new) number ≡ parts_in (page_of old) number) × HasToldBoards old new number)
       ⊎ ((parts_in (page_of new) number ≢ parts_in (page_of old) number) × (news_of new ≡ []))
 
-  -- so many scrapers, each with the other end of a ring of the owner's, which has told them nothing, and with a page of a registry of its own over
-  -- the owner's first board
+  -- so many scrapers, each with the other end of a ring of the owner's, which has told them nothing, and with a page of a
+  -- registry of its own over the owner's first board
   pub record AreAppointed (many : ℕ) (crew : PageCrew N C H G) (recruits : List (PageScraper N C H G)) : Type 0 where
     pub board : RegistryView (SharedScanner N C H G)
     pub first : slice_get (page_of crew).boards 0 ≡ Some board

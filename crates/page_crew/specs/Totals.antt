@@ -32,8 +32,8 @@ module _ {N C H G : ℕ} where
       pub many : length (snapshots_in totals) ≡ boards
       pub each : (k : ℕ) (taken : Taken) → slice_get (snapshots_in totals) k ≡ Some taken → IsExactOn (first + k) recorders taken
 
-    -- why that is not told: of a board, the first such, the recorder of a worker is not at its place; or on each board all are there, and there
-    -- was no memory
+    -- why that is not told: of a board, the first such, the recorder of a worker is not at its place; or on each board all are
+    -- there, and there was no memory
     abbrev pub IsSettleFault : List (PageRecorder N C H G) → SettleFault → Type 0
     IsSettleFault recorders (NotAll id missing) = (k : ℕ) × (k < boards) × ((j : ℕ) → j < k → AreAll (first + j) recorders)
         × (id ≡ first + k) × IsMisplaced (first + k) recorders missing

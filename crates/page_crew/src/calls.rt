@@ -11,21 +11,25 @@ use registry_state::Handle;
 use scrape_page::{Page, PageChildFault, PageFamilyFault, PageFamilyId};
 
 impl<const N: usize, const C: usize, const H: usize, const G: usize> PageCrew<N, C, H, G> {
-    ghost use Rattle.std.specs.Prelude.{◌≡◌, ◌≢◌, ◌<◌, ℕ, [], length, slice_get, All, IfErr, IfOk, IsSomeAnd, MatchOption, OnErr, OnOk};
+    ghost use Rattle.std.specs.Prelude.{◌≡◌, ◌≢◌, ◌<◌, ℕ, [], length, slice_get, All, IfErr, IfOk, IsSomeAnd, MatchOption};
+    ghost use Rattle.std.specs.Prelude.{OnErr, OnOk};
     ghost use Rattle.registry_state.specs.Calls.{IsInside};
     ghost use Rattle.registry_state.specs.Replay.{slots};
     ghost use Rattle.scrape_page.specs.Rooms.{IsHome};
     ghost use Rattle.scrape_page.specs.Faults.{AreApart, IsPageFamilyFault, IsPageChildFault};
     ghost use Rattle.scrape_page.specs.Calls.{AddsFamily, IsGivenOnPage, LeavesPage};
     ghost use Rattle.scrape_page.specs.declared.fault.PageChildFault.TheVariants.{Full};
-    ghost use Rattle.page_crew.specs.Told.{news_of, parts_in, HasToldFamily, HasToldChild, HasToldFurther, HasToldGiven, HasToldBoards, HasToldRefused};
-    ghost use Rattle.page_crew.specs.Owned.{page_of, PageDid, IsUnchanged, IsGivenByCrew, IsGivenFurther, IsRefusedByCrew, IsRefusedFurther};
+    ghost use Rattle.page_crew.specs.Told.{news_of, parts_in, HasToldFamily, HasToldChild, HasToldFurther, HasToldGiven};
+    ghost use Rattle.page_crew.specs.Told.{HasToldBoards, HasToldRefused};
+    ghost use Rattle.page_crew.specs.Owned.{page_of, PageDid, IsUnchanged, IsGivenByCrew, IsGivenFurther, IsRefusedByCrew};
+    ghost use Rattle.page_crew.specs.Owned.{IsRefusedFurther};
 
     /// Registers a family in a group: [`Page::register`]. Each scraper is told of it.
     ///
     /// # Errors
     ///
-    /// 19 [`PageFamilyFault::Clash`]; 23 [`PageFamilyFault::TooManyFamilies`]; 6 [`PageFamilyFault::NoMemory`]. Nothing has changed then.
+    /// 19 [`PageFamilyFault::Clash`]; 23 [`PageFamilyFault::TooManyFamilies`]; 6 [`PageFamilyFault::NoMemory`]. Nothing has
+    /// changed then.
     pub fn register(&mut self, desc: Desc, group: u64) -> Result<PageFamilyId, PageFamilyFault>
         ensures number { IfOk result (λ family. family.number ≡ length (page_of self.old).families) }
         ensures accepted { OnOk result (AreApart (page_of self.old).families desc × (length (page_of self.old).families < 128)) }
@@ -166,15 +170,16 @@ impl<const N: usize, const C: usize, const H: usize, const G: usize> PageCrew<N,
         }
     }
 
-    /// The handle of the child of these values, as [`Page::child`] gives it; but where every slot of the kind is used on every board, a
-    /// further board is made, and the child is made on it. Each recorder meets the board at its first call by the handle, and each scraper is told of
-    /// the board, and of a child that is made.
+    /// The handle of the child of these values, as [`Page::child`] gives it; but where every slot of the kind is used on every
+    /// board, a further board is made, and the child is made on it. Each recorder meets the board at its first call by the
+    /// handle, and each scraper is told of the board, and of a child that is made.
     ///
     /// # Errors
     ///
-    /// 20, 21, 46 and 6 as [`Page::child`]; 22 [`PageChildFault::Full`] only where 96 boards are there, or a board has no slot of the kind at
-    /// all. After 6 there may be one board more, on which nothing is counted, and a part of the family on a further board, which no text shows. No
-    /// scraper is told anything after such a part ([`PageCrew::scrapers`] is 0 then): of boards, families and children each shows what it was told.
+    /// 20, 21, 46 and 6 as [`Page::child`]; 22 [`PageChildFault::Full`] only where 96 boards are there, or a board has no slot of
+    /// the kind at all. After 6 there may be one board more, on which nothing is counted, and a part of the family on a further
+    /// board, which no text shows. No scraper is told anything after such a part ([`PageCrew::scrapers`] is 0 then): of boards,
+    /// families and children each shows what it was told.
     pub fn child(
         &mut self,
         family: PageFamilyId,

@@ -5,8 +5,8 @@ ghost use Rattle.ledger_core.specs.declared.op.Op.TheVariants.{Inc, Observe, Up,
 
 use ledger_core::{Counter, Gauge, Histogram, Op};
 
-/// One change of a metric: an operation, and the id of the registry whose handle it was made with. [`inc`], [`observe`], [`up`] and
-/// [`down`] make them, and a recorder publishes several of them as one version.
+/// One change of a metric: an operation, and the id of the registry whose handle it was made with. [`inc`], [`observe`], [`up`]
+/// and [`down`] make them, and a recorder publishes several of them as one version.
 #[derive(Clone, Copy, Debug, PartialEq, Eq)]
 pub struct Change {
     /// The id in the handle.

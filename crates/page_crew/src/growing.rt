@@ -17,8 +17,9 @@ impl<const N: usize, const C: usize, const H: usize, const G: usize> PageCrew<N,
     ghost use Rattle.page_crew.specs.Owned.{page_of, IsGrown, IsUnchanged};
     ghost use Rattle.page_crew.specs.Told.{news_of, HasToldBoard};
 
-    /// Makes a further board, behind those that are there, and gives each recorder its worker of it: it has it from its next call by a
-    /// handle of this board on. Each scraper is told of it, and has a reader of its own of it. Answers the number of the board.
+    /// Makes a further board, behind those that are there, and gives each recorder its worker of it: it has it from its next call
+    /// by a handle of this board on. Each scraper is told of it, and has a reader of its own of it. Answers the number of the
+    /// board.
     ///
     /// # Errors
     ///

@@ -1,4 +1,5 @@
-//! All who work on the boards of a page: recorders that count on every board, and the page with boards that come when they are needed.
+//! All who work on the boards of a page: recorders that count on every board, and the page with boards that come when they are
+//! needed.
 #![tactic(auto)]
 
 mod appointing;

@@ -68,7 +68,8 @@ fn others_on<const N: usize, const C: usize, const H: usize, const G: usize>(
     Ok(others)
 }
 
-/// A new board of this id, its registry, which keeps `window` scrapes, a recorder for each worker, and a registry for each of so many scrapers.
+/// A new board of this id, its registry, which keeps `window` scrapes, a recorder for each worker, and a registry for each of so
+/// many scrapers.
 pub(crate) fn new_board<const N: usize, const C: usize, const H: usize, const G: usize>(
     alloc: Global,
     id: u64,

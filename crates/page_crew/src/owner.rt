@@ -18,7 +18,8 @@ use rtrb::Producer;
 use scrape_page::{BoardFault, Page};
 use std::alloc::Global;
 
-/// A page, over boards of one geometry, with a worker of each board for each of its `N` recorders. Boards come when they are needed.
+/// A page, over boards of one geometry, with a worker of each board for each of its `N` recorders. Boards come when they are
+/// needed.
 pub struct PageCrew<const N: usize, const C: usize, const H: usize, const G: usize> {
     pub(crate) alloc: Global,
     pub(crate) first: u64,
@@ -60,9 +61,9 @@ impl<const N: usize, const C: usize, const H: usize, const G: usize> PageCrew<N,
     ghost use Rattle.page_crew.specs.Told.{news_of, AreAppointed};
     ghost use Rattle.page_crew.specs.Owned.{first_of, page_of, IsOpened};
 
-    /// A page of one board, without families, and `N` recorders, in the order of their numbers. Each board keeps `window` scrapes. The first
-    /// board has the id 128 times `id`, and the others follow it, so pages of different ids never share a board's id; boards that are made
-    /// otherwise keep away from these. A recorder takes its workers at its first call.
+    /// A page of one board, without families, and `N` recorders, in the order of their numbers. Each board keeps `window`
+    /// scrapes. The first board has the id 128 times `id`, and the others follow it, so pages of different ids never share a
+    /// board's id; boards that are made otherwise keep away from these. A recorder takes its workers at its first call.
     ///
     /// # Errors
     ///
@@ -83,13 +84,13 @@ impl<const N: usize, const C: usize, const H: usize, const G: usize> PageCrew<N,
         }
     }
 
-    /// The same with so many scrapers, 0 to 3: each has a page of its own, over a reader of each board that nobody else has. Each scrape of theirs
-    /// shows what they are told by then: all that is registered, while [`PageCrew::scrapers`] is as many.
+    /// The same with so many scrapers, 0 to 3: each has a page of its own, over a reader of each board that nobody else has. Each
+    /// scrape of theirs shows what they are told by then: all that is registered, while [`PageCrew::scrapers`] is as many.
     ///
     /// # Errors
     ///
-    /// 31 [`PageCrewFault::BadWindow`], the window is not 1 to 1,024; then [`PageCrewFault::Board`]: 13 [`NoBoard::Geometry`], also where there would
-    /// be over 3 scrapers; 6 [`NoBoard::NoMemory`].
+    /// 31 [`PageCrewFault::BadWindow`], the window is not 1 to 1,024; then [`PageCrewFault::Board`]: 13 [`NoBoard::Geometry`],
+    /// also where there would be over 3 scrapers; 6 [`NoBoard::NoMemory`].
     pub fn with_scrapers(
         alloc: Global,
         id: u32,
@@ -166,8 +167,8 @@ impl<const N: usize, const C: usize, const H: usize, const G: usize> PageCrew<N,
         self.first
     }
 
-    /// How many scrapers are told what comes: as many as were made with it; but none any more after a family took a part on a further board for a child
-    /// that found no memory (6).
+    /// How many scrapers are told what comes: as many as were made with it; but none any more after a family took a part on a
+    /// further board for a child that found no memory (6).
     pub fn scrapers(&self) -> usize
         ensures { result ≡ length (news_of self.now) }
     {

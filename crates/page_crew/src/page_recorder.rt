@@ -1,5 +1,6 @@
 //! What a thread counts with on all boards of a page.
-ghost use Rattle.std.specs.Prelude.{◌≡◌, ◌≢◌, ◌+◌, ◌<◌, ◌≤◌, length, slice_get, vec_capacity, All, IfErr, IfOk, IsSomeAnd, MatchOption, OnOk};
+ghost use Rattle.std.specs.Prelude.{◌≡◌, ◌≢◌, ◌+◌, ◌<◌, ◌≤◌, length, slice_get, vec_capacity, All, IfErr, IfOk, IsSomeAnd};
+ghost use Rattle.std.specs.Prelude.{MatchOption, OnOk};
 ghost use Rattle.bucket_math.specs.Bounds.{place_of};
 ghost use Rattle.ledger_core.specs.declared.op.Op.TheVariants.{Inc, Observe, Up, Down};
 ghost use Rattle.page_crew.specs.Shared.{id_in};
@@ -17,10 +18,10 @@ use std::alloc::{AllocError, Global};
 /// The most boards of a page.
 const MOST: usize = 96;
 
-/// What a thread counts with on a page: its worker of each board. It may move to a thread of its own. Its calls take no lock and no
-/// memory, and wait for nobody: their steps are bounded whatever others do. Where a scrape has failed to read once, a call that publishes may
-/// rest first, some tens of microseconds at most ([`register_rule::Board::rest_if_hushed`]). A board that came to the page after this was made is
-/// met at the first call by a handle of it.
+/// What a thread counts with on a page: its worker of each board. It may move to a thread of its own. Its calls take no lock and
+/// no memory, and wait for nobody: their steps are bounded whatever others do. Where a scrape has failed to read once, a call
+/// that publishes may rest first, some tens of microseconds at most ([`register_rule::Board::rest_if_hushed`]). A board that came
+/// to the page after this was made is met at the first call by a handle of it.
 pub struct PageRecorder<const N: usize, const C: usize, const H: usize, const G: usize> {
     first: u64,
     recorders: Vec<SharedRecorder<N, C, H, G>>,
@@ -51,8 +52,8 @@ impl<const N: usize, const C: usize, const H: usize, const G: usize> PageRecorde
     ghost use Rattle.page_crew.specs.Settling.{CountsWith};
     ghost use Rattle.page_crew.specs.declared.shared_recorder.SharedRecorder.{SharedRecorder};
 
-    /// That of a page whose first board has this id. It gets its worker of each board by this ring, and its room is made here: for all boards
-    /// that a page can have.
+    /// That of a page whose first board has this id. It gets its worker of each board by this ring, and its room is made here:
+    /// for all boards that a page can have.
     ///
     /// Refusal 6 [`AllocError`], and no other.
     pub(crate) fn new(
@@ -155,7 +156,8 @@ impl<const N: usize, const C: usize, const H: usize, const G: usize> PageRecorde
     /// # Errors
     ///
     /// 16 [`CountFault::WrongRegistry`], no board that it knows has this id, also after it looked for boards that came; then
-    /// [`CountFault::Apply`]: 15, the worker has published 2^64 - 1 times on this board; 11, a slot is none of the board's; 12, a number would pass 2^48 - 1. No number has changed then.
+    /// [`CountFault::Apply`]: 15, the worker has published 2^64 - 1 times on this board; 11, a slot is none of the board's; 12, a
+    /// number would pass 2^48 - 1. No number has changed then.
     #[inline(always)]
     pub fn apply(&mut self, id: u64, ops: &[Op]) -> Result<(), CountFault>
         ensures published { OnOk result (IsPublishedOn id ops.now (recorders_of self.old) (recorders_of self.new)) }

@@ -22,11 +22,13 @@ const MOST: u64 = 96;
 
 /// A page with all who work on its boards, behind one lock.
 ///
-/// Its calls take `&self`, so that any number of threads may share it. They wait for the lock, in no order that is promised; while a scrape or a
-/// board is made, the others wait for it. Recorders count on the boards meanwhile, and know nothing of the lock.
+/// Its calls take `&self`, so that any number of threads may share it. They wait for the lock, in no order that is promised;
+/// while a scrape or a board is made, the others wait for it. Recorders count on the boards meanwhile, and know nothing of the
+/// lock.
 ///
-/// Whatever the calls were, whenever the lock is free it is a page, each of whose boards keeps what a registry keeps: that is what
-/// [`PageRegistry::into_crew`] promises. Which of its states a call under the lock meets no clause says, since others may have come between.
+/// Whatever the calls were, whenever the lock is free it is a page, each of whose boards keeps what a registry keeps: that is
+/// what [`PageRegistry::into_crew`] promises. Which of its states a call under the lock meets no clause says, since others may
+/// have come between.
 pub struct PageRegistry<const N: usize, const C: usize, const H: usize, const G: usize> {
     first: u64,
     crew: Mutex<PageCrew<N, C, H, G>>,
@@ -110,8 +112,8 @@ impl<const N: usize, const C: usize, const H: usize, const G: usize> PageRegistr
     ///
     /// # Errors
     ///
-    /// 19 [`PageFamilyFault::Clash`] with the least family whose lines take a name of this one's; 23 [`PageFamilyFault::TooManyFamilies`] where
-    /// 128 are there; 6 [`PageFamilyFault::NoMemory`]. Nothing has changed then.
+    /// 19 [`PageFamilyFault::Clash`] with the least family whose lines take a name of this one's; 23
+    /// [`PageFamilyFault::TooManyFamilies`] where 128 are there; 6 [`PageFamilyFault::NoMemory`]. Nothing has changed then.
     pub fn register<R: Wait>(
         &self,
         rt: &R,
@@ -134,16 +136,16 @@ impl<const N: usize, const C: usize, const H: usize, const G: usize> PageRegistr
         crew.family(name)
     }
 
-    /// The handle of the child of these label values, whichever board it is on: [`PageCrew::child`] behind the lock. Where there is none it is
-    /// made; where every slot of its kind is used on every board, a board is made for it first, so this allocates, and the other calls wait
-    /// meanwhile. A thread that counts asks once and keeps the handle.
+    /// The handle of the child of these label values, whichever board it is on: [`PageCrew::child`] behind the lock. Where there
+    /// is none it is made; where every slot of its kind is used on every board, a board is made for it first, so this allocates,
+    /// and the other calls wait meanwhile. A thread that counts asks once and keeps the handle.
     ///
     /// # Errors
     ///
     /// 20 [`PageChildFault::NoSuchFamily`]; 21 [`PageChildFault::LabelCount`]; then, of a child that is not there, 46
-    /// [`PageChildFault::TooManyChildren`], 22 [`PageChildFault::Full`] only where 96 boards are there or a board has no slot of the kind, and 6
-    /// [`PageChildFault::NoMemory`]. After 6 there may be one board more, on which nothing is counted, and a part of the family on a further
-    /// board, which no text shows; else nothing has changed.
+    /// [`PageChildFault::TooManyChildren`], 22 [`PageChildFault::Full`] only where 96 boards are there or a board has no slot of
+    /// the kind, and 6 [`PageChildFault::NoMemory`]. After 6 there may be one board more, on which nothing is counted, and a part
+    /// of the family on a further board, which no text shows; else nothing has changed.
     pub fn child<R: Wait>(
         &self,
         rt: &R,
@@ -164,8 +166,8 @@ impl<const N: usize, const C: usize, const H: usize, const G: usize> PageRegistr
     ///
     /// # Errors
     ///
-    /// 44 [`NoBoard::TooManyBoards`], 96 are there; 6 [`NoBoard::NoMemory`]; 13 never, since the boards that are there have this geometry.
-    /// Nothing has changed then.
+    /// 44 [`NoBoard::TooManyBoards`], 96 are there; 6 [`NoBoard::NoMemory`]; 13 never, since the boards that are there have this
+    /// geometry. Nothing has changed then.
     pub fn add_board<R: Wait>(&self, rt: &R) -> Result<usize, NoBoard>
         ensures further { IfOk result (λ number. (0 < number) × (number < 96)) }
         ensures geometry { IfErr result (λ why. why ≢ Geometry) }
@@ -178,13 +180,13 @@ impl<const N: usize, const C: usize, const H: usize, const G: usize> PageRegistr
         added
     }
 
-    /// One scrape of all boards, shown as one: [`PageCrew::scrape`] behind the lock. The text is made of it afterwards, when the lock is free
-    /// again.
+    /// One scrape of all boards, shown as one: [`PageCrew::scrape`] behind the lock. The text is made of it afterwards, when the
+    /// lock is free again.
     ///
     /// # Errors
     ///
-    /// 14 [`NoScrape::Contended`] where a board's scan was given up four times; 6 [`NoScrape::NoMemory`]. The boards before it have kept their
-    /// scrapes then.
+    /// 14 [`NoScrape::Contended`] where a board's scan was given up four times; 6 [`NoScrape::NoMemory`]. The boards before it
+    /// have kept their scrapes then.
     pub fn scrape<R: Wait>(&self, rt: &R) -> Result<Scrape, NoScrape>
         ensures moments { IfOk result (ShowsMoments N C H G) }
     {
@@ -194,7 +196,8 @@ impl<const N: usize, const C: usize, const H: usize, const G: usize> PageRegistr
         scrape
     }
 
-    /// Keeps `window` scrapes of each board from now on, also of those that come later: [`PageCrew::set_window`] behind the lock. It takes no memory.
+    /// Keeps `window` scrapes of each board from now on, also of those that come later: [`PageCrew::set_window`] behind the lock.
+    /// It takes no memory.
     ///
     /// # Errors
     ///
@@ -220,8 +223,8 @@ impl<const N: usize, const C: usize, const H: usize, const G: usize> PageRegistr
 
 /// A page behind its lock, as a source of scrapes. A scrape waits for the lock, which is free again before the text is made.
 ///
-/// A scrape shows of each board of a page one moment of a history of publishes, and the families that were on it then. That it is this page, and
-/// its newest moment, only tests show.
+/// A scrape shows of each board of a page one moment of a history of publishes, and the families that were on it then. That it is
+/// this page, and its newest moment, only tests show.
 pub struct FromPage<'a, T: Wait, const N: usize, const C: usize, const H: usize, const G: usize> {
     /// The runtime that waits.
     pub rt: &'a T,

@@ -14,10 +14,11 @@ use scrape_page::{BoardFault, Page};
 use scrape_server::MakesScrapes;
 use std::alloc::Global;
 
-/// A scraper of a page: a page of its own, over a reader of each board that nobody else has. It may move to a thread of its own, and takes no
-/// lock: the owner and other scrapers go on meanwhile, and share nothing with it but the boards' words and its ring.
+/// A scraper of a page: a page of its own, over a reader of each board that nobody else has. It may move to a thread of its own,
+/// and takes no lock: the owner and other scrapers go on meanwhile, and share nothing with it but the boards' words and its ring.
 ///
-/// What the owner registers it is told by that ring, which it empties before each scrape. It makes the same calls on its own page, in the same order.
+/// What the owner registers it is told by that ring, which it empties before each scrape. It makes the same calls on its own
+/// page, in the same order.
 #[derive(Drop)]
 pub struct PageScraper<const N: usize, const C: usize, const H: usize, const G: usize> {
     page: Page<SharedScanner<N, C, H, G>, N, C, H, G>,

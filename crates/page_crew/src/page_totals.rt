@@ -21,8 +21,8 @@ pub struct PageTotals<const N: usize, const C: usize, const H: usize, const G: u
 impl<const N: usize, const C: usize, const H: usize, const G: usize> PageTotals<N, C, H, G> {
     ghost use Rattle.page_crew.specs.Totals.{HasBoard, IsOn};
 
-    /// Those of the board of this id, the `registry` of a handle; None exactly where there are none of such a board: it is none of the page's, or came
-    /// since.
+    /// Those of the board of this id, the `registry` of a handle; None exactly where there are none of such a board: it is none
+    /// of the page's, or came since.
     pub fn on(&self, board: u64) -> Option<&Snapshot<N, C, H, G>>
         ensures some { IfSome result (λ totals. IsOn board self.now totals.now) }
         ensures none { IfNone result (¬ (HasBoard board self.now)) }
@@ -62,7 +62,8 @@ impl<const N: usize, const C: usize, const H: usize, const G: usize> PageCrew<N,
     // Why there are no totals of these, where on some board of the page they are not all.
     fn not_all(&self, recorders: &[PageRecorder<N, C, H, G>]) -> Option<SettleFault>
         ensures some { IfSome result (IsSettleFault (first_of self.now) (length (page_of self.now).boards) recorders.now) }
-        ensures none { IfNone result ((k : ℕ) → k < length (page_of self.now).boards → AreAll (first_of self.now + k) recorders.now) }
+        ensures none { IfNone result ((k : ℕ) → k < length (page_of self.now).boards → AreAll (first_of self.now + k)
+            recorders.now) }
     {
         for number in 0..self.page.boards().len() {
             let board = self.first + number as u64;
@@ -73,17 +74,19 @@ impl<const N: usize, const C: usize, const H: usize, const G: usize> PageCrew<N,
         None
     }
 
-    /// Exact totals of all boards, for the end of a run whose numbers are a bill: of all recorders of this page, in the order in which
-    /// [`PageCrew::new`] has handed them out. Each takes its workers of boards that came since first. It does not check that they are of this
-    /// page, but by the ids of their boards. It scans nothing: while it is called, none of them publishes.
+    /// Exact totals of all boards, for the end of a run whose numbers are a bill: of all recorders of this page, in the order in
+    /// which [`PageCrew::new`] has handed them out. Each takes its workers of boards that came since first. It does not check
+    /// that they are of this page, but by the ids of their boards. It scans nothing: while it is called, none of them publishes.
     ///
-    /// After Ok there is a snapshot of each board, as of [`settle_board`](crate::settle_board): its vector is how often each recorder has
-    /// published there, and each total is exactly the sum of all that they published there. What a tally has that was not flushed is not in it.
+    /// After Ok there is a snapshot of each board, as of [`settle_board`](crate::settle_board): its vector is how often each
+    /// recorder has published there, and each total is exactly the sum of all that they published there. What a tally has that
+    /// was not flushed is not in it.
     ///
     /// # Errors
     ///
-    /// 18 [`SettleFault::NotAll`], with the first board at which they are not all, and the least place there at which not the recorder of that
-    /// worker is, or `N` where there is one too many; 6 [`SettleFault::NoMemory`], only where all are there on each board.
+    /// 18 [`SettleFault::NotAll`], with the first board at which they are not all, and the least place there at which not the
+    /// recorder of that worker is, or `N` where there is one too many; 6 [`SettleFault::NoMemory`], only where all are there on
+    /// each board.
     pub fn settle(
         &self,
         recorders: &mut [PageRecorder<N, C, H, G>],

@@ -13,14 +13,14 @@ impl<const N: usize, const C: usize, const H: usize, const G: usize> PageRecorde
     ghost use Rattle.page_crew.specs.Held.{recorders_of, first_of, feed_of};
     ghost use Rattle.page_crew.specs.Publishing.{ArePublishedOn, IsPublishRefused, IsFlushedOn, IsFlushRefused};
 
-    /// Publishes these changes, which are by handles of one board, as one version of it, all of them or nothing: no scrape sees some of
-    /// them alone. Of no changes nothing is published.
+    /// Publishes these changes, which are by handles of one board, as one version of it, all of them or nothing: no scrape sees
+    /// some of them alone. Of no changes nothing is published.
     ///
     /// # Errors
     ///
-    /// 47 [`PublishFault::TwoBoards`], they are by handles of two boards; then [`PublishFault::Count`]: 16, no board that it knows has their id, also after it looked for boards that
-    /// came;
-    /// 15, or 11 or 12 of the first change that fails, with its place. No number has changed then.
+    /// 47 [`PublishFault::TwoBoards`], they are by handles of two boards; then [`PublishFault::Count`]: 16, no board that it
+    /// knows has their id, also after it looked for boards that came; 15, or 11 or 12 of the first change that fails, with its
+    /// place. No number has changed then.
     #[inline(always)]
     pub fn publish<const K: usize>(&mut self, changes: &[Change; K]) -> Result<(), PublishFault>
         ensures published { OnOk result (ArePublishedOn changes.now (recorders_of self.old) (recorders_of self.new)) }
@@ -41,8 +41,8 @@ impl<const N: usize, const C: usize, const H: usize, const G: usize> PageRecorde
         }
     }
 
-    /// An empty tally for handles of the board of this id, the id in a handle, with room for `K` operations, and for 65,536 at most. What
-    /// it has is published as one version, so it is of one board; another board's handle it refuses (16).
+    /// An empty tally for handles of the board of this id, the id in a handle, with room for `K` operations, and for 65,536 at
+    /// most. What it has is published as one version, so it is of one board; another board's handle it refuses (16).
     pub fn tally<const K: usize>(&self, board: u64) -> Tally<C, H, G, K>
         ensures registry { result.registry ≡ board }
         ensures empty { result.ops ≡ [] }
@@ -50,13 +50,14 @@ impl<const N: usize, const C: usize, const H: usize, const G: usize> PageRecorde
         Tally::new(board)
     }
 
-    /// Publishes what a tally has counted as one version of its board, all of it or nothing: no scrape sees some of it alone. The tally is
-    /// empty then.
+    /// Publishes what a tally has counted as one version of its board, all of it or nothing: no scrape sees some of it alone. The
+    /// tally is empty then.
     ///
     /// # Errors
     ///
-    /// 16 [`CountFault::WrongRegistry`], no board that it knows has the tally's id, also after it looked for boards that came; then
-    /// [`CountFault::Apply`]: 15, the worker has published 2^64 - 1 times on this board; 12, a number would pass 2^48 - 1. No number has changed then, and the tally has what it had.
+    /// 16 [`CountFault::WrongRegistry`], no board that it knows has the tally's id, also after it looked for boards that came;
+    /// then [`CountFault::Apply`]: 15, the worker has published 2^64 - 1 times on this board; 12, a number would pass 2^48 - 1.
+    /// No number has changed then, and the tally has what it had.
     pub fn flush<const K: usize>(&mut self, tally: &mut Tally<C, H, G, K>) -> Result<(), CountFault>
         ensures flushed { OnOk result (IsFlushedOn tally.old (recorders_of self.old) (recorders_of self.new)) }
         ensures emptied { OnOk result (tally.new.ops ≡ []) }

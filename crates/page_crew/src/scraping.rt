@@ -20,8 +20,8 @@ impl<const N: usize, const C: usize, const H: usize, const G: usize> PageCrew<N,
     ///
     /// # Errors
     ///
-    /// 14 [`NoScrape::Contended`]; 6 [`NoScrape::NoMemory`]. The boards before it have kept their scrapes then, and those behind it are as
-    /// they were.
+    /// 14 [`NoScrape::Contended`]; 6 [`NoScrape::NoMemory`]. The boards before it have kept their scrapes then, and those behind
+    /// it are as they were.
     pub fn scrape(&mut self) -> Result<Scrape, NoScrape>
         ensures scraped { ScrapesByCrew self.old self.new result }
         ensures untold { news_of self.new ≡ news_of self.old }
@@ -57,8 +57,8 @@ impl<const N: usize, const C: usize, const H: usize, const G: usize> PageCrew<N,
         self.page.keep_board(number)
     }
 
-    /// Keeps `window` scrapes of each board from now on, also of those that come later. Where more were kept, the oldest ones are dropped.
-    /// It takes no memory.
+    /// Keeps `window` scrapes of each board from now on, also of those that come later. Where more were kept, the oldest ones are
+    /// dropped. It takes no memory.
     ///
     /// # Errors
     ///

@@ -122,17 +122,18 @@ pub(crate) fn settle_on<const N: usize, const C: usize, const H: usize, const G:
 }
 
 /// Exact totals of one board, for the end of a run whose numbers are a bill: of all recorders of a page, in the order in which
-/// [`PageCrew::new`](crate::PageCrew::new) has handed them out. Each takes its workers of boards that came since first. It does not check that
-/// they are of one page. It scans nothing: while it is called, none of them publishes. [`PageCrew::settle`](crate::PageCrew::settle) has those of all
-/// boards.
+/// [`PageCrew::new`](crate::PageCrew::new) has handed them out. Each takes its workers of boards that came since first. It does
+/// not check that they are of one page. It scans nothing: while it is called, none of them publishes.
+/// [`PageCrew::settle`](crate::PageCrew::settle) has those of all boards.
 ///
-/// After Ok the vector of `out` is how often each of them has published on the board of this id, and each total is exactly the sum of all that
-/// they published there. What stands in a tally that was not flushed is not in it. It takes no memory and waits for nobody.
+/// After Ok the vector of `out` is how often each of them has published on the board of this id, and each total is exactly the
+/// sum of all that they published there. What stands in a tally that was not flushed is not in it. It takes no memory and waits
+/// for nobody.
 ///
 /// # Errors
 ///
-/// 18 [`NotAll`], with the least place at which not the recorder stands that counts as that worker on the board: it knows no board of this id,
-/// counts as another worker, or is not there; `N` where there is one too many. `out` is as it was.
+/// 18 [`NotAll`], with the least place at which not the recorder stands that counts as that worker on the board: it knows no
+/// board of this id, counts as another worker, or is not there; `N` where there is one too many. `out` is as it was.
 pub fn settle_board<const N: usize, const C: usize, const H: usize, const G: usize>(
     recorders: &mut [PageRecorder<N, C, H, G>],
     board: u64,

@@ -16,8 +16,8 @@ use register_rule::Board;
 use snapshot_update::{ApplyFault, CountFault, Worker};
 use std::sync::Arc;
 
-/// What a thread counts with on one board of a page: a worker, and a share in its board. It may move to a thread of its own. Its calls take no
-/// lock and no memory, and wait for nobody, as those of a [`PageRecorder`](crate::PageRecorder).
+/// What a thread counts with on one board of a page: a worker, and a share in its board. It may move to a thread of its own. Its
+/// calls take no lock and no memory, and wait for nobody, as those of a [`PageRecorder`](crate::PageRecorder).
 pub struct SharedRecorder<const N: usize, const C: usize, const H: usize, const G: usize> {
     board: Arc<Board<N, C, H, G>>,
     worker: Worker<N, C, H, G>,
@@ -182,7 +182,8 @@ impl<const N: usize, const C: usize, const H: usize, const G: usize> SharedRecor
         ensures updated { OnOk result (IsUpdated N C H G (index_of (worker_in self.old)) ops.now (member_of (worker_in self.old))
             (member_of (worker_in self.new))) }
         ensures lists { OnOk result (lists_of (worker_in self.new) ≡ lists_of (worker_in self.old) ++ ops.now ∷ []) }
-        ensures accepted { OnOk result (Accepts C H G (word_after (sum_ops C H) (member_of (worker_in self.old)).work.made) ops.now) }
+        ensures accepted { OnOk result (Accepts C H G (word_after (sum_ops C H) (member_of (worker_in self.old)).work.made)
+            ops.now) }
         ensures room { OnOk result (length (member_of (worker_in self.old)).work.made < 18446744073709551615) }
         ensures fault { IfErr result (IsApplyFault C H G (member_of (worker_in self.old)) ops.now) }
         ensures unchanged { OnErr result (member_of (worker_in self.new) ≡ member_of (worker_in self.old)) }

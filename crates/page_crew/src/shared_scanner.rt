@@ -57,7 +57,8 @@ impl<const N: usize, const C: usize, const H: usize, const G: usize> Source<N, C
     fn scan(&mut self, out: &mut Snapshot<N, C, H, G>) -> Result<(), Contended>
         ensures recorded { OnOk result (Records N C H G (scan_by self.old.reader).recorded (scan_by self.new.reader).recorded
             (as_answer out.new)) }
-        ensures gave { OnOk result ((arc_value self.new.board ≡ arc_value self.old.board) × HasAnswered self.old.reader self.new.reader
+        ensures gave { OnOk result ((arc_value self.new.board ≡ arc_value self.old.board) × HasAnswered self.old.reader
+            self.new.reader
             (as_answer out.new)) }
         ensures quit { OnOk result ((scan_by self.new.reader).quit ≡ (scan_by self.old.reader).quit) }
         ensures given_up { OnErr result (((scan_by self.new.reader).recorded ≡ (scan_by self.old.reader).recorded)

@@ -87,8 +87,8 @@ pub record IsOrder (families : List Family) (order : List ℕ) : Type 0 where
   pub each : IsPermutation (range_with_len 0 (length families)) order
   pub rising : AllPairs (λ (i j : ℕ). IsNamedBefore (family_at families i) (family_at families j)) order
 
--- what every `RegistryState` keeps: what `IsKept` says, which is public (the journal replays to the families and the last scrape), and
--- besides that the families stand in this order by their names, and use so many slots
+-- what every `RegistryState` keeps: what `IsKept` says, which is public (the journal replays to the families and the last
+-- scrape), and besides that the families stand in this order by their names, and use so many slots
 pub record IsHeld (n c h g : ℕ) (recorded : List Answer) (journal : List Entry) (window : ℕ) (families : List Family)
     (order : List ℕ) (used : Kind → ℕ) : Type 0 where
   pub geometry : IsGeometry n c h g

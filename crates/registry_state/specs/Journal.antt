@@ -3,14 +3,14 @@ use Rattle.std.specs.Prelude.{ℕ, zero, suc, ◌-◌, List, [], ◌∷◌, leng
 use Rattle.metric_desc.specs.Desc.{Descriptor}
 use Rattle.register_rule.specs.declared.view.Answer.{Answer}
 
--- a change of what is scraped, as contracts see it (a `NotedChange` is what the journal keeps of it, with shared texts): a family was
--- registered; or a child of these label values was made of the family of this number, and this slot counts for it
+-- a change of what is scraped, as contracts see it (a `NotedChange` is what the journal keeps of it, with shared texts): a family
+-- was registered; or a child of these label values was made of the family of this number, and this slot counts for it
 pub data RegistryChange : Type 0 where
   Registered : (desc : Descriptor) → RegistryChange
   ChildMade : (family : ℕ) → (values : List (List ℕ)) → (slot : ℕ) → RegistryChange
 
--- one entry of the journal: what was registered or made, or the answer of the scan that a scrape was made by (expo_text's `Scraped` is
--- the scrape that it gave)
+-- one entry of the journal: what was registered or made, or the answer of the scan that a scrape was made by (expo_text's
+-- `Scraped` is the scrape that it gave)
 pub data Entry : Type 0 where
   Changed : (change : RegistryChange) → Entry
   Scraped : (answer : Answer) → Entry
@@ -21,8 +21,8 @@ changes [] = []
 changes (Changed change ∷ entries) = change ∷ changes entries
 changes (Scraped answer ∷ entries) = changes entries
 
--- its kept scrapes, from the oldest: of each the source's answer, a vector and totals, which is read out as a `Snapshot`; what the call gave
--- of it, the families and their numbers (a `Scrape`), is not kept
+-- its kept scrapes, from the oldest: of each the source's answer, a vector and totals, which is read out as a `Snapshot`; what
+-- the call gave of it, the families and their numbers (a `Scrape`), is not kept
 abbrev pub scrapes : List Entry → List Answer
 scrapes [] = []
 scrapes (Changed change ∷ entries) = scrapes entries

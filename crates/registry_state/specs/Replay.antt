@@ -22,7 +22,8 @@ pub record Family : Type 0 where
   pub desc : Descriptor
   pub children : List Child
 
--- what a registry holds: its families in the order of their registration, and the last scrape, if there is one: the newest that is kept
+-- what a registry holds: its families in the order of their registration, and the last scrape, if there is one: the newest that
+-- is kept
 pub record State : Type 0 where
   pub families : List Family
   pub last : Option Answer

@@ -4,8 +4,8 @@ ghost use Rattle.std.specs.Prelude.{◌≡◌};
 use ledger_core::{Counter, Gauge, Histogram};
 use metric_desc::{Desc, Kind};
 
-/// A family of a registry, by its number alone. Unlike a [`Handle`] it does not have the registry's id: a family of another registry is
-/// taken for the one of that number, and refused (20) only where there are not so many.
+/// A family of a registry, by its number alone. Unlike a [`Handle`] it does not have the registry's id: a family of another
+/// registry is taken for the one of that number, and refused (20) only where there are not so many.
 #[repr(C)]
 #[derive(Clone, Copy, Debug, PartialEq, Eq)]
 pub struct FamilyId {

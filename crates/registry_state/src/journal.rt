@@ -86,8 +86,8 @@ impl<const N: usize, const C: usize, const H: usize, const G: usize> Journal<N, 
         Ok(())
     }
 
-    /// Scans the source and notes what it gave as a scrape: that is kept, and of those before it so many that they are `window` at most,
-    /// the newest. It takes all its memory before it scans.
+    /// Scans the source and notes what it gave as a scrape: that is kept, and of those before it so many that they are `window`
+    /// at most, the newest. It takes all its memory before it scans.
     ///
     /// # Errors
     ///

@@ -33,7 +33,8 @@ impl<'a, const N: usize, const C: usize, const H: usize, const G: usize> Kept<'a
         self.scrapes.len()
     }
 
-    /// Makes `out` the scrape of this number, counted from the oldest, which is 0; it asks that there are more. It takes no memory.
+    /// Makes `out` the scrape of this number, counted from the oldest, which is 0; it asks that there are more. It takes no
+    /// memory.
     pub fn read(&self, number: usize, out: &mut Snapshot<N, C, H, G>)
         requires { number < length self.now }
         ensures { slice_get self.now number ≡ Some (as_answer out.new) }

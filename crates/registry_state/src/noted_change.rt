@@ -4,8 +4,8 @@ use metric_desc::Desc;
 use metric_names::LabelValue;
 use std::sync::Arc;
 
-/// A change of what is scraped, as the journal keeps it: descriptors and label values are shared, so that keeping it copies none. Contracts
-/// see it as a `RegistryChange`, which has them as texts (`change_of`).
+/// A change of what is scraped, as the journal keeps it: descriptors and label values are shared, so that keeping it copies none.
+/// Contracts see it as a `RegistryChange`, which has them as texts (`change_of`).
 #[derive(Drop)]
 pub(crate) enum NotedChange {
     /// A family was registered.

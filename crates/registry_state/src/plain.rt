@@ -13,8 +13,8 @@ impl<const N: usize, const C: usize, const H: usize, const G: usize> RegistrySta
     H,
     G,
 > {
-    /// Applies the whole list of operations to the source as one, or nothing. It takes no memory, and neither the journal nor what
-    /// the source recorded changes.
+    /// Applies the whole list of operations to the source as one, or nothing. It takes no memory, and neither the journal nor
+    /// what the source recorded changes.
     ///
     /// # Errors
     ///

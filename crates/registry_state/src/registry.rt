@@ -106,15 +106,16 @@ impl<
     ghost use Rattle.registry_state.specs.Journal.{Registered, scrapes, within};
     ghost use Rattle.std.specs.Prelude.{⊤};
     ghost use Rattle.registry_state.specs.Replay.{nothing, IsAcceptedChange, IsNew};
-    ghost use Rattle.registry_state.specs.Faults.{IsChildFault, IsMissingChild, IsWindow, IsNewFault, IsRegisterFault, Leaves, AreFree};
+    ghost use Rattle.registry_state.specs.Faults.{IsChildFault, IsMissingChild, IsWindow, IsNewFault, IsRegisterFault};
+    ghost use Rattle.registry_state.specs.Faults.{Leaves, AreFree};
     ghost use Rattle.registry_state.specs.Held.{IsPlaceOfValues};
     ghost use Rattle.registry_state.specs.Calls.{IsGiven, IsFound, IsInside, WasMade, changed, KeepsScrape};
     ghost use Rattle.registry_state.specs.Kept.{IsKept};
     ghost use Rattle.registry_state.specs.Shown.{IsShown};
 
     /// A registry of this id, with an empty journal and without families, that keeps `window` scrapes. Room for them is made
-    /// here. It asks for `N` from 1 to 32, and at most 256, 32 and 64 for `C`, `H` and `G`. Over a board the id has to be the board's
-    /// (`Board::id`): its workers refuse handles of another.
+    /// here. It asks for `N` from 1 to 32, and at most 256, 32 and 64 for `C`, `H` and `G`. Over a board the id has to be the
+    /// board's (`Board::id`): its workers refuse handles of another.
     ///
     /// # Errors
     ///
@@ -226,7 +227,8 @@ impl<
     ///
     /// # Errors
     ///
-    /// 6 [`ScrapeFault::NoMemory`]: nothing was scanned. 14 [`ScrapeFault::Contended`]: the scan was given up. Nothing is kept then.
+    /// 6 [`ScrapeFault::NoMemory`]: nothing was scanned. 14 [`ScrapeFault::Contended`]: the scan was given up. Nothing is kept
+    /// then.
     pub fn scrape(&mut self) -> Result<Scrape, ScrapeFault>
         ensures scraped { OnOk result (KeepsScrape N C H G S.recorded S.gave self.old self.new) }
         ensures quit { OnOk result (S.quit self.new.source ≡ S.quit self.old.source) }
@@ -248,12 +250,13 @@ impl<
         Ok(blank.fill(&self.families, &self.order, newest))
     }
 
-    /// Scans the source, and keeps the answer: a scrape without what it shows, which [`RegistryState::kept`] has. Memory is taken only where
-    /// there is no room for it.
+    /// Scans the source, and keeps the answer: a scrape without what it shows, which [`RegistryState::kept`] has. Memory is taken
+    /// only where there is no room for it.
     ///
     /// # Errors
     ///
-    /// 6 [`ScrapeFault::NoMemory`]: nothing was scanned. 14 [`ScrapeFault::Contended`]: the scan was given up. Nothing is kept then.
+    /// 6 [`ScrapeFault::NoMemory`]: nothing was scanned. 14 [`ScrapeFault::Contended`]: the scan was given up. Nothing is kept
+    /// then.
     pub fn keep(&mut self) -> Result<(), ScrapeFault>
         ensures scraped { OnOk result (KeepsScrape N C H G S.recorded S.gave self.old self.new) }
         ensures quit { OnOk result (S.quit self.new.source ≡ S.quit self.old.source) }
@@ -309,8 +312,8 @@ impl<
         self.journal.kept()
     }
 
-    /// Keeps `window` scrapes from now on, and answers how many are kept. Where more were kept, the oldest ones are dropped. It takes
-    /// no memory: room for more is made by the scrapes that need it.
+    /// Keeps `window` scrapes from now on, and answers how many are kept. Where more were kept, the oldest ones are dropped. It
+    /// takes no memory: room for more is made by the scrapes that need it.
     ///
     /// # Errors
     ///

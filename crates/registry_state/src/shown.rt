@@ -145,8 +145,8 @@ pub(crate) struct Blank {
 impl Blank {
     ghost use Rattle.registry_state.specs.Filled.{blanks};
 
-    /// A scrape of `workers` workers and of these families, without its numbers. The descriptors of the families and the values of their
-    /// children are shared.
+    /// A scrape of `workers` workers and of these families, without its numbers. The descriptors of the families and the values
+    /// of their children are shared.
     ///
     /// Refusal 6 [`NoMemory`], and no other.
     pub(crate) fn new(

@@ -46,7 +46,11 @@ head_of status len =
 
 -- a head with the length of the body, and the body where it is sent
 abbrev pub reply_of : Status → (body : List ℕ) → (with_body : Bool) → Reply
-reply_of status body with_body = record { status = status; bytes = head_of status (length body) ++ (if with_body then body else []) }
+reply_of status body with_body = record {
+  status = status;
+  bytes = head_of status (length body) ++ (if with_body then body else
+      []);
+}
 
 -- the reply of a refusal, whose body is its phrase and a line feed
 abbrev pub refusal_reply : Status → (with_body : Bool) → Reply

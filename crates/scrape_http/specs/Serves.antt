@@ -37,8 +37,8 @@ Known = Option (List ℕ)
 abbrev pub WasOpenBefore : (bytes : List ℕ) → (latest : ℕ) → Type 0
 WasOpenBefore bytes latest = latest < length bytes → IsOpen (take (length bytes - latest) bytes)
 
--- The bytes that a reader gave, at most 8,192, ask for this, and would, whatever came after them; no read was made once a whole head
--- stood there, or none could come.
+-- The bytes that a reader gave, at most 8,192, ask for this, and would, whatever came after them; no read was made once a whole
+-- head stood there, or none could come.
 pub record IsHeard (input input' : Known) (ended : Bool) (latest : ℕ) (wanted : Wanted) : Type 0 where
   pub bytes : List ℕ
   pub consumed : Consumes input input' bytes
@@ -70,7 +70,8 @@ Sends output output' (Some reply) (Err (WriteFailed sent)) =
 Sends output output' None (Err EndBeforeHead) = Keeps output output'
 Sends output output' _ _ = ⊥
 
--- what was noted of the writer that a reply was sent to: that it failed exactly after refusal 25, and after Ok that all is flushed
+-- what was noted of the writer that a reply was sent to: that it failed exactly after refusal 25, and after Ok that all is
+-- flushed
 pub record IsWritten (noted_failed noted_flushed : Bool) (result : Result Served WireFault) : Type 0 where
   pub failed : noted_failed ≡ is_write_failed result
   pub flushed : IsOk result → noted_flushed ≡ true

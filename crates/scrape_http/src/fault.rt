@@ -10,8 +10,8 @@ pub enum WireFault {
     /// Refusal 24: a read failed before the request was whole. Nothing was written.
     #[error("a read failed before the request was whole")]
     ReadFailed,
-    /// Refusal 25: a write or the flush failed, or a write took no byte. The writer has taken the first `sent` bytes of the reply,
-    /// and no more.
+    /// Refusal 25: a write or the flush failed, or a write took no byte. The writer has taken the first `sent` bytes of the
+    /// reply, and no more.
     #[error("the writer failed after {sent} bytes of the reply")]
     WriteFailed { sent: usize },
     /// Refusal 26: the input ended before its first byte. Nothing was written.

@@ -58,8 +58,8 @@ impl ShortText {
         self.filled = end;
     }
 
-    /// Adds a line of a field's name, to which its `: ` belongs here, and its value. There is room for them, and for the 2 bytes of the
-    /// line's end: 254 is 256 less these.
+    /// Adds a line of a field's name, to which its `: ` belongs here, and its value. There is room for them, and for the 2 bytes
+    /// of the line's end: 254 is 256 less these.
     fn put_line(&mut self, name: &str, value: &[u8])
         requires { length self.old + length name.now + length value.now ≤ 254 }
         ensures { self.new ≡ self.old ++ line (name.now ++ value.now) }

@@ -58,8 +58,8 @@ fn send_bytes<W: Write>(
     finish(writer, status, bytes.len())
 }
 
-/// Sends a head and the text of a scrape, which has `len` bytes, in as few writes as pieces of 16,384 bytes allow. That `len` is below
-/// 2^33 is what `text_len` says of each text, so that the bytes of both can be counted.
+/// Sends a head and the text of a scrape, which has `len` bytes, in as few writes as pieces of 16,384 bytes allow. That `len` is
+/// below 2^33 is what `text_len` says of each text, so that the bytes of both can be counted.
 fn send_text<W: Write>(
     writer: &mut Watched<W>,
     head: &[u8],
@@ -133,8 +133,8 @@ fn send_outcome<W: Write>(
 
 /// Reads one request, and writes its reply, which is flushed. It takes no memory but that of the source's scrape.
 ///
-/// At most 8,192 bytes are read, and no read is made once a whole head stands there or none can. Where no whole head of at most 64
-/// fields stands there, the reply is
+/// At most 8,192 bytes are read, and no read is made once a whole head stands there or none can. Where no whole head of at most
+/// 64 fields stands there, the reply is
 ///
 /// - 431 where there are 8,192 bytes, or more than 64 fields behind a start line;
 /// - 400 where no head can begin so, or the input ends within it;
@@ -147,16 +147,17 @@ fn send_outcome<W: Write>(
 /// 3. 405 where the method is neither GET nor HEAD;
 /// 4. 200 with the text of a scrape, or 503 where the source has none.
 ///
-/// What follows the head is not used. A HEAD gets the head that a GET would. The source is asked in the last case alone, and once.
+/// What follows the head is not used. A HEAD gets the head that a GET would. The source is asked in the last case alone, and
+/// once.
 ///
 /// Source: RFC 9112, sections 2 to 4 and 9.6; RFC 9110, sections 8, 9, 10.2.1 and 15; RFC 6585, section 5.
 ///
 /// # Errors
 ///
 /// Refusal 24, [`WireFault::ReadFailed`], exactly where the reader has failed now: nothing is written. Refusal 26,
-/// [`WireFault::EndBeforeHead`], where the input ended with no byte: nothing is written. Refusal 25, [`WireFault::WriteFailed`], exactly
-/// where the writer has failed now: it has taken the first `sent` bytes of the reply, and no more. A scrape that was made before that
-/// stays made.
+/// [`WireFault::EndBeforeHead`], where the input ended with no byte: nothing is written. Refusal 25, [`WireFault::WriteFailed`],
+/// exactly where the writer has failed now: it has taken the first `sent` bytes of the reply, and no more. A scrape that was made
+/// before that stays made.
 pub fn serve_one<R: Read, W: Write, S: ScrapeFrom>(
     reader: &mut Watched<R>,
     writer: &mut Watched<W>,

@@ -30,8 +30,8 @@ pub trait ScrapeFrom {
     fn scrape(&mut self) -> Result<Scrape, NoScrape>
         ensures { gave self.old self.new result };
 
-    /// How many times more, at most, whoever serves or prints its scrapes asks it where a scan was given up (14): the same number for all sources
-    /// of a type. [`serve_one`](crate::serve_one) asks once.
+    /// How many times more, at most, whoever serves or prints its scrapes asks it where a scan was given up (14): the same number
+    /// for all sources of a type. [`serve_one`](crate::serve_one) asks once.
     fn again(&self) -> usize
         ensures { result ≡ again };
 }

@@ -111,16 +111,22 @@ pub still_distinct : (xs ys : List Child) → IsPermutation xs ys → AllPairs (
 still_distinct xs ys moved distinct = λ i j d lt within same.
     let values = λ (child : Child). child.values in
     let n : length (map values ys) ≡ length ys = length-map ys values in
-    let at_i : get_or (map values ys) i d.values ≡ (get_or ys i d).values = get_or-map values ys i d d.values (omega (arith, lt, within)) in
+    let at_i : get_or (map values ys) i d.values ≡ (get_or ys i d).values = get_or-map values ys i d d.values (omega (
+      arith,
+      lt,
+      within,
+    )) in
     let at_j : get_or (map values ys) j d.values ≡ (get_or ys j d).values = get_or-map values ys j d d.values within in
     AllPairs-from_IsDistinct same_decides (map values ys)
-    (IsDistinct-IsPermutation (eq_by_cmp values_cmp) (λ x y. (eq_by_cmp_equiv values_total).symm x y) (map values xs) (map values ys)
+    (IsDistinct-IsPermutation (eq_by_cmp values_cmp) (λ x y. (eq_by_cmp_equiv values_total).symm x y) (map values xs) (map values
+    ys)
     (IsPermutation-map values xs ys moved)
     (IsDistinct-from_AllPairs same_decides (map values xs) (pairs_map (λ (a b : List (List ℕ)). a ≢ b) values xs distinct)))
     i j d.values lt (omega (arith, n, within)) (at_i ∙ same ∙ sym at_j)
 
 -- children in strict order stand before others whose first stands behind their last
-pub joined_at : (xs ys : List Child) (a b : Child) → ((d : Child) → a ≡ get_or xs (length xs - 1) d) → ((d : Child) → b ≡ get_or ys 0 d)
+pub joined_at : (xs ys : List Child) (a b : Child) → ((d : Child) → a ≡ get_or xs (length xs - 1) d) → ((d : Child) → b ≡ get_or
+    ys 0 d)
     → IsChildBefore a b → AllPairs IsChildBefore xs → AllPairs IsChildBefore ys → AllPairs IsChildBefore (xs ++ ys)
 joined_at xs ys a b last first before front back =
     joined xs ys front back (λ d some more. ap₂ stands (sym (last d)) (sym (first d)) ∙ before)

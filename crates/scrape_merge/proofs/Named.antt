@@ -9,7 +9,8 @@ use Rattle.std.proofs.lemmas.List.Elements.{All-append, All-nil, All-head, All-t
 use Rattle.expo_text.specs.Scraped.{Child, Family}
 use Rattle.scrape_merge.specs.Merged.{children_of, named}
 
-pub children-append : (name : List ℕ) (xs ys : List Family) → children_of name (xs ++ ys) ≡ children_of name xs ++ children_of name ys
+pub children-append : (name : List ℕ) (xs ys : List Family) → children_of name (xs ++ ys) ≡ children_of name xs ++ children_of
+    name ys
 children-append name xs ys =
     flat_map-append (λ (family : Family). if bytes_eq family.desc.name name then family.children else []) xs ys
 
@@ -65,7 +66,8 @@ all_children P name [] all = All-nil P
 all_children P name (family ∷ families) all =
     All-append P (if bytes_eq family.desc.name name then family.children else []) (children_of name families)
     (by (bytes_eq family.desc.name name) (bytes_eq-Decides family.desc.name name).0)
-    (all_children P name families (All-tail (λ (family : Family). family.desc.name ≡ name → All P family.children) family families all))
+    (all_children P name families (All-tail (λ (family : Family). family.desc.name ≡ name → All P family.children) family families
+    all))
   where
     by : (b : Bool) → (b ≡ true → family.desc.name ≡ name) → All P (if b then family.children else [])
     by true said = All-head (λ (family : Family). family.desc.name ≡ name → All P family.children) family families all (said refl)

@@ -30,7 +30,8 @@ not_apart o same = (λ less. (cc), λ greater. (cc))
 module _ {X : Type 0} (name : X → List ℕ) (xs : List X) (ordered : AllPairs (λ (a b : X). IsBefore (name a) (name b)) xs) where
   sorted : IsSortedBy (λ (a b : X). is_lt (slice_cmp nat_cmp (name a) (name b))) xs
   sorted k d low lt =
-      not_less _ _ (ordered k (k + 1) d (omega arith) lt) (nat_list_cmp_total.antisymm (name (get_or xs (k + 1) d)) (name (get_or xs k d)))
+      not_less _ _ (ordered k (k + 1) d (omega arith) lt) (nat_list_cmp_total.antisymm (name (get_or xs (k + 1) d)) (name (get_or
+      xs k d)))
 
   rising : (it : List ℕ) → IsNonDecreasingBy (λ (x : X). ordering_index (slice_cmp nat_cmp (name x) it)) xs
   rising it = searchable_from_sorted nat_list_cmp_total name xs it sorted
@@ -58,7 +59,8 @@ module _ {X : Type 0} (name : X → List ℕ) (xs : List X) (ordered : AllPairs 
       let d : X = first xs k within in
       let same : name (get_or xs k d) ≡ it = sym (get_or-map name xs k d it within) ∙ known.2 in
       let equal : slice_cmp nat_cmp (name (get_or xs k d)) it ≡ Equal =
-      subst (λ n. slice_cmp nat_cmp (name (get_or xs k d)) n ≡ Equal) same (tied_itself nat_list_cmp_total (name (get_or xs k d))) in
+      subst (λ n. slice_cmp nat_cmp (name (get_or xs k d)) n ≡ Equal) same (tied_itself nat_list_cmp_total (name (get_or xs k d)))
+      in
       let apart = not_apart (slice_cmp nat_cmp (name (get_or xs k d)) it) equal in
       ⊎_elim (λ lt. apart.0 (parts.0 k d (omega arith) lt)) (λ ge. apart.1 (parts.1 k d ge within)) (cases_lt k place)
 

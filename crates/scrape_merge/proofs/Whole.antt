@@ -27,7 +27,8 @@ pub families_split : (parts front : List Scraped) (part : Scraped) (rest : List 
 families_split parts front part rest split =
     ap families_of split ∙ flat_map-append (λ (part : Scraped). part.families) front (part ∷ rest)
 
-pub families_push : (front : List Scraped) (part : Scraped) → families_of (front ++ part ∷ []) ≡ families_of front ++ part.families
+pub families_push : (front : List Scraped) (part : Scraped) → families_of (front ++ part ∷ []) ≡ families_of front ++
+    part.families
 families_push front part = flat_map-append (λ (part : Scraped). part.families) front (part ∷ [])
     ∙ ap (λ l. families_of front ++ l) (append-nil part.families)
 
@@ -73,16 +74,19 @@ fitting frames parts can valid k d within =
           (get_or all i e).children) (desc i e lt same) (valid i e lt).numbers);
     }
 
-family_is : (all : List Family) (frame : Frame) (family : Family) → IsFitting all frame → IsWhole all frame family → IsFamily family
+family_is : (all : List Family) (frame : Frame) (family : Family) → IsFitting all frame → IsWhole all frame family → IsFamily
+    family
 family_is all frame family fits whole =
     let n = length_permutation (children_of frame.desc.name all) family.children whole.children in
     record {
       few = let few = fits.few in omega arith;
       fit = subst (λ (desc : Descriptor). All (λ (child : Child). length child.values ≡ length desc.labels) family.children)
-          (sym whole.desc) (All-permutation (λ (child : Child). length child.values ≡ length frame.desc.labels) (children_of frame.desc.name all)
+          (sym whole.desc) (All-permutation (λ (child : Child). length child.values ≡ length frame.desc.labels) (children_of
+          frame.desc.name all)
           family.children whole.children fits.fit);
       numbers = subst (λ (desc : Descriptor). All (λ (child : Child). IsNumberOf desc.kind child.number) family.children)
-          (sym whole.desc) (All-permutation (λ (child : Child). IsNumberOf frame.desc.kind child.number) (children_of frame.desc.name all)
+          (sym whole.desc) (All-permutation (λ (child : Child). IsNumberOf frame.desc.kind child.number) (children_of
+          frame.desc.name all)
           family.children whole.children fits.numbers);
       ordered = whole.ordered;
     }
@@ -111,7 +115,8 @@ module _ (hs : List Held) (frames : FramesView) (parts : List Scraped) (is : map
   pub has_room : All (HasRoomFor (families_of parts)) hs
   has_room k d within =
       let room : HasRoom (families_of parts) (frame_of (get_or hs k d)) =
-      all_unmap (HasRoom (families_of parts)) frame_of hs (subst (All (HasRoom (families_of parts))) (sym is) can.room) k d within in
+      all_unmap (HasRoom (families_of parts)) frame_of hs (subst (All (HasRoom (families_of parts))) (sym is) can.room) k d within
+      in
       let none = (empty k d within).children in
       let length_is : length (get_or hs k d).children.items ≡ 0 = ap length none in
       record {
@@ -134,7 +139,8 @@ module _ (hs : List Held) (frames : FramesView) (parts : List Scraped) (is : map
         }) hs grown
         (λ k d within. (
           empty k d within,
-          all_unmap (λ (frame : Frame). AllPairs (λ (a b : Child). a.values ≢ b.values) (children_of frame.desc.name (families_of parts)))
+          all_unmap (λ (frame : Frame). AllPairs (λ (a b : Child). a.values ≢ b.values) (children_of frame.desc.name (families_of
+              parts)))
               frame_of hs (subst (All (λ (frame : Frame). AllPairs (λ (a b : Child). a.values ≢ b.values)
               (children_of frame.desc.name (families_of parts)))) (sym is) can.distinct) k d within,
         ))

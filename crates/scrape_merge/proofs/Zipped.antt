@@ -8,7 +8,8 @@ use Rattle.std.proofs.lemmas.List.Elements.{All-cons, All-head, All-tail, All-ni
 
 -- one step behind another
 pub zip_then : {X Y Z : Type 0} (R : X → Y → Type 0) (S : Y → Z → Type 0) (T : X → Z → Type 0)
-    → ((x : X) (y : Y) (z : Z) → R x y → S y z → T x z) → (xs : List X) (ys : List Y) (zs : List Z) → AllZip R xs ys → AllZip S ys zs
+    → ((x : X) (y : Y) (z : Z) → R x y → S y z → T x z) → (xs : List X) (ys : List Y) (zs : List Z) → AllZip R xs ys → AllZip S ys
+    zs
     → AllZip T xs zs
 zip_then R S T by [] [] [] r s = tt
 zip_then R S T by [] [] (z ∷ zs) r s = absurd s
@@ -135,5 +136,6 @@ contains_map f xs x known =
     (known.0, omega arith, get_or-map f xs known.0 x (f x) within ∙ ap f known.2)
 
 -- a list that was written over a list as long
-pub written : {X : Type 0} (xs ys : List X) (n : ℕ) → n ≡ length ys → length xs ≡ length ys → take n (xs ++ drop (length xs) ys) ≡ xs
+pub written : {X : Type 0} (xs ys : List X) (n : ℕ) → n ≡ length ys → length xs ≡ length ys → take n (xs ++ drop (length xs) ys) ≡
+    xs
 written xs ys n is long = take_at xs (drop (length xs) ys) n (long ∙ sym is)

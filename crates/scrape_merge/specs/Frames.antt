@@ -2,8 +2,8 @@
 use Rattle.std.specs.Prelude.{◌≡◌, ℕ, ◌≤◌, Bool, List, [], ◌∷◌, ◌++◌, map, Option, is_none, IfSome}
 use Rattle.metric_desc.specs.Desc.{Descriptor}
 
--- a family of a merge: what it is; whether one family at most is merged into it, whose children it then takes as they are; and else for
--- how many children there is room
+-- a family of a merge: what it is; whether one family at most is merged into it, whose children it then takes as they are; and
+-- else for how many children there is room
 pub record Frame : Type 0 where
   pub desc : Descriptor
   pub single : Bool

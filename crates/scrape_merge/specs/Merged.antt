@@ -24,14 +24,15 @@ children_of name families = of_name (λ (family : Family). family.children) name
 abbrev pub named : List ℕ → List Family → List Descriptor
 named name families = of_name (λ (family : Family). family.desc ∷ []) name families
 
--- there is room for the children of these families that have the frame's name: it takes one family at most, or it has room for the
--- children of all
+-- there is room for the children of these families that have the frame's name: it takes one family at most, or it has room for
+-- the children of all
 abbrev pub HasRoom : List Family → Frame → Type 0
 HasRoom families (frame) = (frame.single ≡ true → length (named frame.desc.name families) ≤ 1)
     × (frame.single ≡ false → length (children_of frame.desc.name families) ≤ frame.room)
 
--- These scrapes can be merged into these families, and no memory is needed for it: the families are those of a scrape; each family of
--- each scrape is one of them, word for word; no two children of a name have the same values, and there are at most 256 of them.
+-- These scrapes can be merged into these families, and no memory is needed for it: the families are those of a scrape; each
+-- family of each scrape is one of them, word for word; no two children of a name have the same values, and there are at most 256
+-- of them.
 pub record IsMergeable (frames : FramesView) (parts : List Scraped) : Type 0 where
   pub few : length frames.families ≤ 128
   pub ordered : AllPairs (λ (a b : Frame). IsBefore a.desc.name b.desc.name) frames.families
@@ -43,9 +44,9 @@ pub record IsMergeable (frames : FramesView) (parts : List Scraped) : Type 0 whe
   pub room : All (HasRoom (families_of parts)) frames.families
   pub numbers : length (flat_map (λ (part : Scraped). part.vector) parts) ≤ frames.numbers
 
--- One scrape of what several show: all vectors in a row; these families; and the children of each are those of all families of its
--- name, each once, with its values and its number. A scrape's children stand in strict order of their values: so this says where
--- each of them stands.
+-- One scrape of what several show: all vectors in a row; these families; and the children of each are those of all families of
+-- its name, each once, with its values and its number. A scrape's children stand in strict order of their values: so this says
+-- where each of them stands.
 pub record IsMerged (descs : List Descriptor) (parts : List Scraped) (whole : Scraped) : Type 0 where
   pub vector : whole.vector ≡ flat_map (λ (part : Scraped). part.vector) parts
   pub families : map (λ (family : Family). family.desc) whole.families ≡ descs

@@ -13,8 +13,8 @@ use crate::putting::put_families;
 use crate::showing::show_all;
 use expo_text::Scrape;
 
-/// Puts the vectors of these scrapes in a row behind a vector, and the children of each of their families behind those of the family
-/// of its name. Takes no memory.
+/// Puts the vectors of these scrapes in a row behind a vector, and the children of each of their families behind those of the
+/// family of its name. Takes no memory.
 fn gather(vector: &mut Vec<u64>, frames: &mut [Frame], parts: Vec<Scrape>)
     requires numbers { length vector.old.items + length (flat_map (λ (part : Scraped). part.vector) parts.items)
         ≤ vec_capacity vector.old }

@@ -138,6 +138,7 @@ module _ {S : Type 0} (n c h g : ℕ) (recorded : S → List Answer) (quit : S �
             subst (λ (l : List (RegistryView S)). AllZip SameFace l new) (sym at.old_is)
             (subst (AllZip SameFace (at.front ++ at.at ∷ at.back)) (sym at.new_is)
             (beside_append SameFace at.front at.front' (at.at ∷ at.back) (at.at' ∷ at.back)
-            (made_still (BoardScrapes n c h g recorded quit gave gave_up) SameFace (λ a b part made. same_again 3 a b (Ok part) made)
+            (made_still (BoardScrapes n c h g recorded quit gave gave_up) SameFace (λ a b part made. same_again 3 a b (Ok part)
+            made)
             at.front at.front' at.parts at.before)
             (same_again 3 at.at at.at' (Err why) at.none, beside SameFace same_itself at.back)))

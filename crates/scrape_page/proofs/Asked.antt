@@ -45,7 +45,8 @@ module _ {S : Type 0} (page : PageView S) (order : List ℕ) (held : IsHeldPage 
   parts_hold = All-weaker (λ part. HasPart page.boards part (λ _ (family : Family). family.desc.name ≡ it.desc.name))
       (λ part. HasPart page.boards part (λ _ _. ⊤))
       (λ part has. some_weaker
-      (λ (board : RegistryView S). IsSomeAnd (slice_get board.state.families part.family.number) (λ (family : Family). family.desc.name ≡ it.desc.name))
+      (λ (board : RegistryView S). IsSomeAnd (slice_get board.state.families part.family.number) (λ (family : Family).
+      family.desc.name ≡ it.desc.name))
       (λ (board : RegistryView S). IsSomeAnd (slice_get board.state.families part.family.number) (λ _. ⊤))
       (λ board some. some_weaker (λ (family : Family). family.desc.name ≡ it.desc.name) (λ _. ⊤) (λ _ _. tt) board.state.families
       part.family.number some) page.boards part.board has) it.parts named
@@ -53,12 +54,14 @@ module _ {S : Type 0} (page : PageView S) (order : List ℕ) (held : IsHeldPage 
   -- on a board that is there
   pub parts_within : All (λ (part : Part). part.board < length page.boards) it.parts
   parts_within = All-weaker (λ part. HasPart page.boards part (λ _ _. ⊤)) (λ (part : Part). part.board < length page.boards)
-      (λ part has. some_within (λ (board : RegistryView S). IsSomeAnd (slice_get board.state.families part.family.number) (λ _. ⊤)) page.boards
+      (λ part has. some_within (λ (board : RegistryView S). IsSomeAnd (slice_get board.state.families part.family.number) (λ _.
+      ⊤)) page.boards
       part.board has) it.parts parts_hold
 
   -- values that none of them has are missing
   pub is_missing : (values : List (List ℕ)) → length values ≡ length it.desc.labels
-      → All (λ part. HasPart page.boards part (λ _ (family : Family). IsNew family values)) it.parts → IsMissing page.boards it values
+      → All (λ part. HasPart page.boards part (λ _ (family : Family). IsNew family values)) it.parts → IsMissing page.boards it
+      values
   is_missing values fit new = (
     fit,
     nowhere it.desc.name values page.boards
@@ -69,7 +72,8 @@ module _ {S : Type 0} (page : PageView S) (order : List ℕ) (held : IsHeldPage 
   )
 
 -- the first part with room is the one that was read
-pub first_at : {S : Type 0} (c h g : ℕ) (kind : Kind) (boards : List (RegistryView S)) (parts : List Part) (place : ℕ) (part : Part)
+pub first_at : {S : Type 0} (c h g : ℕ) (kind : Kind) (boards : List (RegistryView S)) (parts : List Part) (place : ℕ) (part :
+    Part)
     → IsSomeAnd (slice_get parts place) (IsFirstWithRoom c h g kind boards parts place) → part ≡ get_or parts place part
     → IsFirstWithRoom c h g kind boards parts place part
 first_at c h g kind boards parts place part some read =

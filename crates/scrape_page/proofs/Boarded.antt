@@ -67,9 +67,11 @@ module _ {S : Type 0} (board : RegistryView S) where
           ids = all_pairs_push (λ (a b : RegistryView S). a.id ≢ b.id) boards board is.ids fresh.new;
           few = is.few;
           apart = is.apart;
-          known = All-push (λ (b : RegistryView S). All (λ (f : Family). Contains (descs_of families) f.desc) b.state.families) boards board
+          known = All-push (λ (b : RegistryView S). All (λ (f : Family). Contains (descs_of families) f.desc) b.state.families)
+              boards board
               is.known (each_none (λ (f : Family). Contains (descs_of families) f.desc) board.state.families none);
-          once = All-push (λ (b : RegistryView S). AllPairs (λ (x y : Family). x.desc.name ≢ y.desc.name) b.state.families) boards board
+          once = All-push (λ (b : RegistryView S). AllPairs (λ (x y : Family). x.desc.name ≢ y.desc.name) b.state.families) boards
+              board
               is.once (pairs_none (λ (x y : Family). x.desc.name ≢ y.desc.name) board.state.families none);
           spread = All-weaker (IsSpread boards) (IsSpread (boards ++ board ∷ [])) (λ family spread. record {
             parts = subst (λ l. IsPermutation l family.parts) (sym (places_push family.desc.name boards board none)) spread.parts;

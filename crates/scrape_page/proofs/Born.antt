@@ -57,7 +57,8 @@ pub record IsGrown {S : Type 0} (boards boards' : List (RegistryView S)) (it : F
   pub boards_are : boards' ≡ set boards at board'
 
 -- a board on which a child was made
-pub grown_of : {S : Type 0} (c h g : ℕ) (boards boards' : List (RegistryView S)) (part : Part) (values : List (List ℕ)) (handle : Handle)
+pub grown_of : {S : Type 0} (c h g : ℕ) (boards boards' : List (RegistryView S)) (part : Part) (values : List (List ℕ)) (handle :
+    Handle)
     (it : Family) (made : IsMadeOn c h g boards boards' part values handle)
     → slice_get made.board.state.families part.family.number ≡ Some it
     → IsGrown boards boards' it (record { values = values; slot = made.made.slot })
@@ -73,7 +74,8 @@ grown_of {S} c h g boards boards' part values handle it made its = record {
   boards_are = made.boards;
 }
 
-module _ {S : Type 0} (boards boards' : List (RegistryView S)) (it : Family) (child : Child) (is : IsGrown boards boards' it child)
+module _ {S : Type 0} (boards boards' : List (RegistryView S)) (it : Family) (child : Child) (is : IsGrown boards boards' it
+    child)
   where
     -- as many boards
     pub many_grown : length boards' ≡ length boards
@@ -109,7 +111,8 @@ module _ {S : Type 0} (boards boards' : List (RegistryView S)) (it : Family) (ch
         (values_grown name false (name_no it.desc.name name other))
 
     -- and so are the descriptors
-    pub all_grown : (P : Descriptor → Type 0) → All (λ (board : RegistryView S). All (λ (f : Family). P f.desc) board.state.families) boards
+    pub all_grown : (P : Descriptor → Type 0) → All (λ (board : RegistryView S). All (λ (f : Family). P f.desc)
+        board.state.families) boards
         → All (λ (board : RegistryView S). All (λ (f : Family). P f.desc) board.state.families) boards'
     all_grown P all =
         let D : Family → Type 0 = λ (f : Family). P f.desc in
@@ -121,7 +124,8 @@ module _ {S : Type 0} (boards boards' : List (RegistryView S)) (it : Family) (ch
         (all_made D D is.board.state.families is.number child it is.its (λ f here. here)
         (all_at D is.board.state.families is.number it is.its old) old)) all)
 
-    pub once_grown : All (λ (board : RegistryView S). AllPairs (λ (a b : Family). a.desc.name ≢ b.desc.name) board.state.families) boards
+    pub once_grown : All (λ (board : RegistryView S). AllPairs (λ (a b : Family). a.desc.name ≢ b.desc.name) board.state.families)
+        boards
         → All (λ (board : RegistryView S). AllPairs (λ (a b : Family). a.desc.name ≢ b.desc.name) board.state.families) boards'
     once_grown once =
         let R : Family → Family → Type 0 = λ (a b : Family). a.desc.name ≢ b.desc.name in
@@ -154,7 +158,8 @@ module _ {S : Type 0} (boards boards' : List (RegistryView S)) (it : Family) (ch
     }
 
     -- and the family of the child
-    pub spread_own : (p : PageFamily) → it.desc.name ≡ p.desc.name → All (λ other. other ≢ child.values) (values_of p.desc.name boards)
+    pub spread_own : (p : PageFamily) → it.desc.name ≡ p.desc.name → All (λ other. other ≢ child.values) (values_of p.desc.name
+        boards)
         → p.children < 256 → IsSpread boards p → IsSpread boards' (record p { children = p.children + 1 })
     spread_own p same none few spread =
         let moved : IsPermutation (values_of p.desc.name boards ++ child.values ∷ []) (values_of p.desc.name boards') =
@@ -175,7 +180,8 @@ module _ {S : Type 0} (boards boards' : List (RegistryView S)) (it : Family) (ch
         }
 
 -- the family of a part, on its board
-pub part_family : {S : Type 0} (page : PageView S) (number : ℕ) (p : PageFamily) (part : Part) (board : RegistryView S) → IsPage page
+pub part_family : {S : Type 0} (page : PageView S) (number : ℕ) (p : PageFamily) (part : Part) (board : RegistryView S) → IsPage
+    page
     → slice_get page.families number ≡ Some p → Contains p.parts part → slice_get page.boards part.board ≡ Some board
     → (it : Family) × (slice_get board.state.families part.family.number ≡ Some it) × (it.desc.name ≡ p.desc.name)
 part_family {S} page number p part board is at has there =
@@ -186,7 +192,8 @@ part_family {S} page number p part board is at has there =
     (part_there page is number p at) has))
 
 -- a page of whose family a child was made
-pub held_born : {S : Type 0} (c h g : ℕ) (old new : PageView S) (order : List ℕ) (number : ℕ) (part : Part) (values : List (List ℕ))
+pub held_born : {S : Type 0} (c h g : ℕ) (old new : PageView S) (order : List ℕ) (number : ℕ) (part : Part) (values : List (List
+    ℕ))
     (handle : Handle) → IsHeldPage old order
     → MayGrow c h g old number part values
     → AddsChild c h g old new number part values handle → IsHeldPage new order
@@ -196,7 +203,8 @@ held_born c h g old new order number part values handle held may adds =
     let found = part_family old number p part adds.made.board held.page_is adds.it can.2 adds.made.at in
     let it : Family = found.0 in
     let child : Child = record { values = values; slot = adds.made.made.slot } in
-    let grown : IsGrown old.boards new.boards it child = grown_of c h g old.boards new.boards part values handle it adds.made found.1 in
+    let grown : IsGrown old.boards new.boards it child = grown_of c h g old.boards new.boards part values handle it adds.made
+    found.1 in
     held_replaced old new order held number p (record p { children = p.children + 1 }) adds.it refl refl adds.families
     (many_grown old.boards new.boards it child grown)
     (ids_grown old.boards new.boards it child grown)
@@ -221,7 +229,8 @@ can_make {S} c h g page number part values is may =
     let it : Family = found.0 in
     let desc : it.desc ≡ p.desc = same_desc page is number p it.desc at
     (all_there (λ (f : Family). Contains (descs_of page.families) f.desc) board.state.families part.family.number it found.1
-    (all_there (λ (b : RegistryView S). All (λ (f : Family). Contains (descs_of page.families) f.desc) b.state.families) page.boards
+    (all_there (λ (b : RegistryView S). All (λ (f : Family). Contains (descs_of page.families) f.desc) b.state.families)
+    page.boards
     part.board board roomy.1 is.known)) found.2 in
     let New : Part → Type 0 = λ (q : Part). HasPart page.boards q (λ _ (f : Family). IsNew f values) in
     let new : New part = All-contains New p.parts part
@@ -231,7 +240,8 @@ can_make {S} c h g page number part values is may =
     let here : IsNew it values = at_some (λ (f : Family). IsNew f values) board.state.families part.family.number it found.1
     (at_some (λ (b : RegistryView S). IsSomeAnd (slice_get b.state.families part.family.number) (λ (f : Family). IsNew f values))
     page.boards part.board board roomy.1 new) in
-    some_at (λ (b : RegistryView S). IsSomeAnd (slice_get b.state.families part.family.number) (λ (f : Family). IsMissingChild f values
+    some_at (λ (b : RegistryView S). IsSomeAnd (slice_get b.state.families part.family.number) (λ (f : Family). IsMissingChild f
+    values
     × HasSlot c h g b.state.families f.desc.kind)) page.boards part.board board roomy.1
     (some_at (λ (f : Family). IsMissingChild f values × HasSlot c h g board.state.families f.desc.kind) board.state.families
     part.family.number it found.1 (
@@ -240,7 +250,8 @@ can_make {S} c h g page number part values is may =
     ))
 
 -- the family that counts one more was read
-pub adds_child : {S : Type 0} (c h g : ℕ) (old new : PageView S) (number : ℕ) (part : Part) (values : List (List ℕ)) (handle : Handle)
+pub adds_child : {S : Type 0} (c h g : ℕ) (old new : PageView S) (number : ℕ) (part : Part) (values : List (List ℕ)) (handle :
+    Handle)
     (family seen : PageFamily) → MayGrow c h g old number part values → family ≡ get_or old.families number family → seen ≡ family
     → IsMadeOn c h g old.boards new.boards part values handle
     → new.families ≡ set old.families number (record seen { children = seen.children + 1 })

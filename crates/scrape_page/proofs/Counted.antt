@@ -1,5 +1,6 @@
 -- A board has no more families than its page, and none that clashes with a new one.
-use Rattle.std.proofs.Common.{◌≡◌, ◌≢◌, ℕ, zero, suc, ◌<◌, ◌≤◌, List, [], ◌∷◌, Some, length, map, get_or, refl, sym, ap, subst, ◌∙◌}
+use Rattle.std.proofs.Common.{◌≡◌, ◌≢◌, ℕ, zero, suc, ◌<◌, ◌≤◌, List, [], ◌∷◌, Some, length, map, get_or, refl, sym, ap}
+use Rattle.std.proofs.Common.{subst, ◌∙◌}
 use Rattle.std.proofs.Common.{arith, All, AllPairs, Contains}
 use Rattle.std.specs.Prelude.{slice_get, IsSomeAnd}
 use Rattle.std.proofs.lemmas.Cmp.{nat_list_eq_equiv}
@@ -53,17 +54,21 @@ module _ {S : Type 0} (page : PageView S) (order : List ℕ) (held : IsHeldPage 
       ∙ length-map page.families (λ (p : PageFamily). p.desc)
 
   known : All (λ (family : Family). Contains (descs_of page.families) family.desc) board.state.families
-  known = all_there (λ (b : RegistryView S). All (λ (family : Family). Contains (descs_of page.families) family.desc) b.state.families)
+  known = all_there (λ (b : RegistryView S). All (λ (family : Family). Contains (descs_of page.families) family.desc)
+      b.state.families)
       page.boards at board there held.page_is.known
 
   known_names : All (Contains names) (map name_of board.state.families)
   known_names = All-map (Contains names) name_of board.state.families
-      (All-weaker (λ (family : Family). Contains (descs_of page.families) family.desc) (λ (family : Family). Contains names family.desc.name)
-      (λ family is. contains_map (λ (desc : Descriptor). desc.name) (descs_of page.families) family.desc is) board.state.families known)
+      (All-weaker (λ (family : Family). Contains (descs_of page.families) family.desc) (λ (family : Family). Contains names
+      family.desc.name)
+      (λ family is. contains_map (λ (desc : Descriptor). desc.name) (descs_of page.families) family.desc is) board.state.families
+      known)
 
   distinct : AllPairs (λ a b. a ≢ b) (map name_of board.state.families)
   distinct = pairs_map (λ a b. a ≢ b) name_of board.state.families
-      (all_there (λ (b : RegistryView S). AllPairs (λ (f g : Family). f.desc.name ≢ g.desc.name) b.state.families) page.boards at board there
+      (all_there (λ (b : RegistryView S). AllPairs (λ (f g : Family). f.desc.name ≢ g.desc.name) b.state.families) page.boards at
+      board there
       held.page_is.once)
 
   -- as many families as the page, at most
@@ -105,7 +110,8 @@ module _ {S : Type 0} (page : PageView S) (order : List ℕ) (held : IsHeldPage 
       (λ (family : Family). ¬ (Clash family.desc desc))
       (λ family is. let found = known_at page.families family.desc is in
       subst (λ (d : Descriptor). ¬ (Clash d desc)) found.3
-      (all_there (λ (p : PageFamily). ¬ (Clash p.desc desc)) page.families found.0 found.1 found.2 apart)) board.state.families known
+      (all_there (λ (p : PageFamily). ¬ (Clash p.desc desc)) page.families found.0 found.1 found.2 apart)) board.state.families
+      known
 
   -- nor with one of the page's that it lacks
   pub apart_part : (number : ℕ) (p : PageFamily) → slice_get page.families number ≡ Some p → HasNone p.desc.name board
@@ -123,17 +129,20 @@ module _ {S : Type 0} (page : PageView S) (order : List ℕ) (held : IsHeldPage 
       subst (λ (desc : Descriptor). ¬ (Clash desc p.desc)) found.3
       (subst (λ (x : PageFamily). ¬ (Clash x.desc p.desc)) read
       (subst (λ (y : PageFamily). ¬ (Clash (get_or page.families found.0 p).desc y.desc)) here
-      (pair_there (λ (a b : PageFamily). ¬ (Clash a.desc b.desc)) turned page.families found.0 number p held.page_is.apart in_q in_p other)))
+      (pair_there (λ (a b : PageFamily). ¬ (Clash a.desc b.desc)) turned page.families found.0 number p held.page_is.apart in_q
+      in_p other)))
 
 -- a family that is accepted fits onto the board of its group
-pub fits_at : {S : Type 0} (c h g : ℕ) (page : PageView S) (order : List ℕ) → IsHeldPage page order → (desc : Descriptor) (group home : ℕ)
+pub fits_at : {S : Type 0} (c h g : ℕ) (page : PageView S) (order : List ℕ) → IsHeldPage page order → (desc : Descriptor) (group
+    home : ℕ)
     → AreApart page.families desc × (length page.families < 128) → IsHome c h g page desc.kind group home
     → IsSomeAnd (slice_get page.boards home) (λ (board : RegistryView S). (length board.state.families < 128)
     × IsApart board.state.families desc)
 fits_at {S} c h g page order held desc group home accepted is_home =
     let within = home_within c h g page desc.kind group home held.page_is is_home in
     let found = board_at page.boards home within in
-    some_at (λ (board : RegistryView S). (length board.state.families < 128) × IsApart board.state.families desc) page.boards home found.0
+    some_at (λ (board : RegistryView S). (length board.state.families < 128) × IsApart board.state.families desc) page.boards home
+    found.0
     found.1
     (let few = few_on page order held home found.0 found.1 in
     let less = accepted.1 in

@@ -37,7 +37,8 @@ module _ {S : Type 0} where
   module _ (old new : List (RegistryView S)) (all : AllZip SameFace old new) where
     spread_still : (family : PageFamily) → IsSpread old family → IsSpread new family
     spread_still family spread =
-        let values : values_of family.desc.name new ≡ values_of family.desc.name old = values_still family.desc.name old new all in
+        let values : values_of family.desc.name new ≡ values_of family.desc.name old = values_still family.desc.name old new all
+        in
         record {
           parts = subst (λ (places : List Part). IsPermutation places family.parts)
               (sym (places_still family.desc.name old new all)) spread.parts;
@@ -55,18 +56,23 @@ module _ {S : Type 0} where
         record {
           some = let some = page.some in omega arith;
           most = let most = page.most in omega arith;
-          ids = pairs_same (λ (a b : ℕ). a ≢ b) (λ (board : RegistryView S). board.id) (λ (board : RegistryView S). board.id) old new
+          ids = pairs_same (λ (a b : ℕ). a ≢ b) (λ (board : RegistryView S). board.id) (λ (board : RegistryView S). board.id) old
+              new
               (zip_map SameFace (λ (board : RegistryView S). board.id) (λ (board : RegistryView S). board.id)
               (λ a b same. same.id) old new all) page.ids;
           few = page.few;
           apart = page.apart;
           known = zip_all
-              (λ (board : RegistryView S). All (λ (family : Family). Contains (descs_of families) family.desc) board.state.families)
+              (λ (board : RegistryView S). All (λ (family : Family). Contains (descs_of families) family.desc)
+              board.state.families)
               SameFace
-              (λ (board : RegistryView S). All (λ (family : Family). Contains (descs_of families) family.desc) board.state.families)
-              (λ a b known same. subst (All (λ (family : Family). Contains (descs_of families) family.desc)) (sym same.families) known)
+              (λ (board : RegistryView S). All (λ (family : Family). Contains (descs_of families) family.desc)
+              board.state.families)
+              (λ a b known same. subst (All (λ (family : Family). Contains (descs_of families) family.desc)) (sym same.families)
+              known)
               old new page.known all;
-          once = zip_all (λ (board : RegistryView S). AllPairs (λ (a b : Family). a.desc.name ≢ b.desc.name) board.state.families) SameFace
+          once = zip_all (λ (board : RegistryView S). AllPairs (λ (a b : Family). a.desc.name ≢ b.desc.name) board.state.families)
+              SameFace
               (λ (board : RegistryView S). AllPairs (λ (a b : Family). a.desc.name ≢ b.desc.name) board.state.families)
               (λ a b once same. subst (AllPairs (λ (a b : Family). a.desc.name ≢ b.desc.name)) (sym same.families) once)
               old new page.once all;

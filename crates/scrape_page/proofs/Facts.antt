@@ -1,5 +1,6 @@
 -- What follows from what a page keeps.
-use Rattle.std.proofs.Common.{◌≡◌, ◌≢◌, ℕ, zero, suc, ◌*◌, ◌<◌, List, [], ◌∷◌, ◌++◌, Some, length, map, set, get_or, refl, sym, ap}
+use Rattle.std.proofs.Common.{◌≡◌, ◌≢◌, ℕ, zero, suc, ◌*◌, ◌<◌, List, [], ◌∷◌, ◌++◌, Some, length, map, set, get_or, refl}
+use Rattle.std.proofs.Common.{sym, ap}
 use Rattle.std.proofs.Common.{subst, ◌∙◌, arith, All, AllPairs, Contains, inl, inr}
 use Rattle.std.specs.Prelude.{slice_get, if◌then◌else◌}
 use Rattle.std.proofs.lemmas.List.{get_or-set_other, get_or-set_same, length-map}
@@ -58,7 +59,12 @@ pair_there R turned xs i j d pairs in_i in_j differ = elim (cases_order i j) [
 
 -- families that do not clash have other names, and do not clash the other way round
 pub names_apart : (a b : Descriptor) → ¬ (Clash a b) → a.name ≢ b.name
-names_apart a b apart same = apart (a.name, own_name a, subst (Contains (Rattle.metric_desc.specs.Desc.names_of b)) (sym same) (own_name b))
+names_apart a b apart same = apart (
+  a.name,
+  own_name a,
+  subst (Contains (Rattle.metric_desc.specs.Desc.names_of b)) (sym same)
+      (own_name b),
+)
 
 pub turned : (a b : PageFamily) → ¬ (Clash a.desc b.desc) → ¬ (Clash b.desc a.desc)
 turned a b apart clash = apart (clash.0, clash.2, clash.1)
@@ -120,7 +126,8 @@ module _ {S : Type 0} (page : PageView S) (is : IsPage page) where
       let differ : found.0 ≢ number → ⊥ = λ other. names_apart q.desc p.desc
       (subst (λ (x : PageFamily). ¬ (Clash x.desc p.desc)) read
       (subst (λ (y : PageFamily). ¬ (Clash (get_or page.families found.0 p).desc y.desc)) here
-      (pair_there (λ (a b : PageFamily). ¬ (Clash a.desc b.desc)) turned page.families found.0 number p is.apart in_q in_p other)))
+      (pair_there (λ (a b : PageFamily). ¬ (Clash a.desc b.desc)) turned page.families found.0 number p is.apart in_q in_p
+      other)))
       (ap (λ (d : Descriptor). d.name) found.3 ∙ name) in
       elim (cases_order found.0 number) [
         | inl lt ↦ absurd (differ (λ e. absurd (omega (arith, lt, e))))
@@ -132,7 +139,8 @@ module _ {S : Type 0} (page : PageView S) (is : IsPage page) where
 
   -- no board has a family of the name of a descriptor that clashes with none of the page's families
   pub none_of : (desc : Descriptor) → AreApart page.families desc → All (HasNone desc.name) page.boards
-  none_of desc apart = All-weaker (λ (board : RegistryView S). All (λ (family : Family). Contains (descs_of page.families) family.desc)
+  none_of desc apart = All-weaker (λ (board : RegistryView S). All (λ (family : Family). Contains (descs_of page.families)
+      family.desc)
       board.state.families) (HasNone desc.name)
       (λ board known. All-weaker (λ (family : Family). Contains (descs_of page.families) family.desc)
       (λ (family : Family). family.desc.name ≢ desc.name)
@@ -148,5 +156,6 @@ module _ {S : Type 0} (page : PageView S) (is : IsPage page) where
       All-permutation (λ part. HasPart page.boards part (λ _ (family : Family). family.desc.name ≡ p.desc.name))
       (places_of p.desc.name page.boards) p.parts (all_there (IsSpread page.boards) page.families number p at is.spread).parts
       (Rattle.std.proofs.lemmas.List.Elements.All-from_recursion
-      (λ part. HasPart page.boards part (λ _ (family : Family). family.desc.name ≡ p.desc.name)) (places_of p.desc.name page.boards)
+      (λ part. HasPart page.boards part (λ _ (family : Family). family.desc.name ≡ p.desc.name)) (places_of p.desc.name
+      page.boards)
       (places_named p.desc.name page.boards))

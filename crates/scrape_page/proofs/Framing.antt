@@ -11,7 +11,8 @@ use Rattle.scrape_page.specs.Families.{PageFamily}
 use Rattle.scrape_page.specs.Framed.{IsFrameOf, AreFrames}
 
 -- room for none
-of_few : (frame : Frame) (family : PageFamily) → IsFrameFor family.desc None frame → length family.parts ≤ 1 → IsFrameOf frame family
+of_few : (frame : Frame) (family : PageFamily) → IsFrameFor family.desc None frame → length family.parts ≤ 1 → IsFrameOf frame
+    family
 of_few frame family is few = record {
   desc = is.desc;
   single = λ single. few;
@@ -37,11 +38,14 @@ module _ (families : List PageFamily) (order : List ℕ) (i number : ℕ) (famil
       take_more order i number within ∙ ap (λ k. take i order ++ k ∷ []) (sym here) in
       subst (λ (frames : List Frame). AreFrames families (take (i + 1) order) frames) (sym pushed)
       (subst (λ (numbers : List ℕ). AreFrames families numbers (old.families ++ frame ∷ [])) (sym front)
-      (zip_push (λ (number : ℕ) (frame : Frame). IsSomeAnd (slice_get families number) (IsFrameOf frame)) (take i order) old.families
+      (zip_push (λ (number : ℕ) (frame : Frame). IsSomeAnd (slice_get families number) (IsFrameOf frame)) (take i order)
+      old.families
       number frame before
-      (some_at (IsFrameOf frame) families number family (slice_get_read families (length families) number family refl there is) of)))
+      (some_at (IsFrameOf frame) families number family (slice_get_read families (length families) number family refl there is)
+      of)))
 
-  pub more_single : IsPushed family.desc None old new → length family.parts ≤ 1 → AreFrames families (take (i + 1) order) new.families
+  pub more_single : IsPushed family.desc None old new → length family.parts ≤ 1 → AreFrames families (take (i + 1) order)
+      new.families
   more_single pushed few = more pushed.frame (of_few pushed.frame family pushed.is few) pushed.families
 
   pub more_many : IsPushed family.desc (Some family.children) old new → AreFrames families (take (i + 1) order) new.families

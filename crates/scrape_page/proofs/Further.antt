@@ -39,7 +39,8 @@ slot_still : (c h g : ℕ) (families : List Family) (desc : Descriptor) (kind : 
 slot_still c h g families desc kind has = (
   has.0,
   has.1,
-  All-push (λ (family : Family). family.desc.kind ≡ kind → All (λ (child : Child). child.slot ≡ has.0 → ⊥) family.children) families
+  All-push (λ (family : Family). family.desc.kind ≡ kind → All (λ (child : Child). child.slot ≡ has.0 → ⊥) family.children)
+      families
       (record { desc = desc; children = [] }) has.2 (λ _. All-nil (λ (child : Child). child.slot ≡ has.0 → ⊥)),
 )
 
@@ -71,7 +72,8 @@ module _ {S : Type 0} (c h g : ℕ) (old : PageView S) (number : ℕ) (kind : Ki
     may_take = some_at (Takable c h g old.boards place) old.families number the.0 the.1 (the.2.3, has_room)
 
     -- there is room, and no memory
-    pub is_no_memory : IsSomeAnd (slice_get old.families number) (λ (it : PageFamily). IsMissing old.boards it values × (it.children < 256)
+    pub is_no_memory : IsSomeAnd (slice_get old.families number) (λ (it : PageFamily). IsMissing old.boards it values ×
+        (it.children < 256)
         × Any (HasRoom c h g it.desc.kind) old.boards)
     is_no_memory =
         let found = some_there (HasRoom c h g (the.0).desc.kind) (slice_get old.boards place) has_room in
@@ -87,11 +89,13 @@ module _ {S : Type 0} (c h g : ℕ) (old : PageView S) (number : ℕ) (kind : Ki
         let p' : PageFamily = record p { parts = p.parts ++ part ∷ [] } in
         let board : RegistryView S = adds.registered.board in
         let board' : RegistryView S = changed (Registered p.desc) board in
-        let can : Growing c h g old.boards kind values p = at_some (Growing c h g old.boards kind values) old.families number p adds.it may in
+        let can : Growing c h g old.boards kind values p = at_some (Growing c h g old.boards kind values) old.families number p
+        adds.it may in
         let there : slice_get mid.families number ≡ Some p' =
         ap (λ fs. slice_get fs number) adds.families ∙ set_there old.families number p p' adds.it in
         let there_board : slice_get mid.boards part.board ≡ Some board' =
-        ap (λ bs. slice_get bs part.board) adds.registered.boards ∙ set_there old.boards part.board board board' adds.registered.at in
+        ap (λ bs. slice_get bs part.board) adds.registered.boards ∙ set_there old.boards part.board board board'
+        adds.registered.at in
         let room_old : HasRoom c h g p.desc.kind board =
         subst (λ k. HasRoom c h g k board) can.2
         (at_some (HasRoom c h g kind) old.boards part.board board adds.registered.at
@@ -101,7 +105,8 @@ module _ {S : Type 0} (c h g : ℕ) (old : PageView S) (number : ℕ) (kind : Ki
           (
             can.0.0,
             subst (All (λ other. other ≡ values → ⊥))
-                (sym (same_values old.boards mid.boards part.board part.family.number p.desc adds.registered p.desc.name)) can.0.1,
+                (sym (same_values old.boards mid.boards part.board part.family.number p.desc adds.registered p.desc.name))
+                can.0.1,
           ),
           can.1,
           Contains-push p.parts part,
@@ -130,7 +135,8 @@ module _ {S : Type 0} (c h g : ℕ) (old : PageView S) (number : ℕ) (kind : Ki
     made_further mid new part handle taken at made = record {
       part = part;
       mid = mid;
-      missing = some_at (λ (it : PageFamily). IsMissing old.boards it values × (it.children < 256)) old.families number the.0 the.1
+      missing = some_at (λ (it : PageFamily). IsMissing old.boards it values × (it.children < 256)) old.families number the.0
+          the.1
           (the.2.0, the.2.1);
       taken = takes_part mid part taken at;
       made = made;

@@ -76,7 +76,8 @@ missing_only c h g families number values Child.NoSuchFamily missing is =
     × HasSlot c h g families it.desc.kind) families number missing in absurd (omega (arith, within, is))
 missing_only c h g families number values (Child.LabelCount want got) missing is =
     absurd (some_never (λ (it : Family). IsMissingChild it values × HasSlot c h g families it.desc.kind)
-    (λ (it : Family). (want ≡ length it.desc.labels) × (got ≡ length values) × (want ≢ got)) (slice_get families number) missing is
+    (λ (it : Family). (want ≡ length it.desc.labels) × (got ≡ length values) × (want ≢ got)) (slice_get families number) missing
+    is
     (λ it may not. not.2 (not.0 ∙ sym may.0.0 ∙ sym not.1)))
 missing_only c h g families number values (Child.Full kind many) missing is =
     absurd (some_never (λ (it : Family). IsMissingChild it values × HasSlot c h g families it.desc.kind)
@@ -108,7 +109,8 @@ part_more families number seen family held parts part same still more =
     ∙ ap (λ (f : PageFamily). slice_set families number (record f { parts = f.parts ++ part ∷ [] })) same
 
 -- one family more, in other words
-pub family_more : (families before after : List PageFamily) (desc copy kept : Descriptor) (group home : ℕ) (none parts : List Part)
+pub family_more : (families before after : List PageFamily) (desc copy kept : Descriptor) (group home : ℕ) (none parts : List
+    Part)
     (part : Part) → before ≡ families
     → after ≡ before ++ record { desc = kept; group = group; home = home; parts = parts; children = 0 } ∷ []
     → kept ≡ copy → copy ≡ desc → none ≡ [] → parts ≡ none ++ part ∷ []

@@ -5,7 +5,8 @@ use Rattle.std.specs.Prelude.{flat_map, slice_get}
 use Rattle.std.specs.Bool.{Decides, one_answer}
 use Rattle.std.specs.List.Sorted.{IsPermutation}
 use Rattle.std.proofs.lemmas.List.{get_or-map, length-map}
-use Rattle.std.proofs.lemmas.List.Sorted.{IsPermutation-refl, IsPermutation-trans, IsPermutation-append_left, IsPermutation-append_right}
+use Rattle.std.proofs.lemmas.List.Sorted.{IsPermutation-refl, IsPermutation-trans, IsPermutation-append_left}
+use Rattle.std.proofs.lemmas.List.Sorted.{IsPermutation-append_right}
 use Rattle.std.proofs.lemmas.List.Sorted.{IsPermutation-append_comm}
 use Rattle.std.proofs.lemmas.Map.Keys.{IsDistinct-IsPermutation}
 use Rattle.std.proofs.lemmas.Map.Made.{AllPairs-from_IsDistinct, IsDistinct-from_AllPairs}
@@ -20,7 +21,8 @@ pub same_elements : {X : Type 0} (xs ys : List X) → xs ≡ ys → IsPermutatio
 same_elements xs ys is = subst (IsPermutation xs) is (IsPermutation-refl xs)
 
 -- what comes behind all comes behind a front that grows by it
-pub moved_front : {X : Type 0} (xs ys rest more : List X) → IsPermutation (xs ++ more) ys → IsPermutation ((xs ++ rest) ++ more) (ys ++ rest)
+pub moved_front : {X : Type 0} (xs ys rest more : List X) → IsPermutation (xs ++ more) ys → IsPermutation ((xs ++ rest) ++ more)
+    (ys ++ rest)
 moved_front xs ys rest more grown =
     IsPermutation-trans _ _ _ (same_elements _ _ (append_assoc xs rest more))
     (IsPermutation-trans _ _ _ (IsPermutation-append_right xs (rest ++ more) (more ++ rest) (IsPermutation-append_comm rest more))
@@ -28,9 +30,11 @@ moved_front xs ys rest more grown =
     (IsPermutation-append_left rest (xs ++ more) ys grown)))
 
 -- what comes behind all comes behind a back that grows by it
-pub moved_back : {X : Type 0} (xs ys front more : List X) → IsPermutation (xs ++ more) ys → IsPermutation ((front ++ xs) ++ more) (front ++ ys)
+pub moved_back : {X : Type 0} (xs ys front more : List X) → IsPermutation (xs ++ more) ys → IsPermutation ((front ++ xs) ++ more)
+    (front ++ ys)
 moved_back xs ys front more grown =
-    IsPermutation-trans _ _ _ (same_elements _ _ (append_assoc front xs more)) (IsPermutation-append_right front (xs ++ more) ys grown)
+    IsPermutation-trans _ _ _ (same_elements _ _ (append_assoc front xs more)) (IsPermutation-append_right front (xs ++ more) ys
+    grown)
 
 -- an element takes the place of another, to which it adds
 pub flat_set : {X Y : Type 0} (h : X → List Y) (xs : List X) (i : ℕ) (x y : X) (more : List Y) → slice_get xs i ≡ Some x
@@ -76,7 +80,8 @@ flipped : {X : Type 0} (a b : Bool) (x y : X) → Decides a (x ≡ y) → Decide
 flipped a b x y left right = one_answer a b left (λ is. sym (right.0 is), λ same. right.1 (sym same))
 
 -- label values that differ stay so when they change places
-pub distinct_moved : (xs ys : List (List (List ℕ))) → IsPermutation xs ys → AllPairs (λ a b. a ≢ b) xs → AllPairs (λ a b. a ≢ b) ys
+pub distinct_moved : (xs ys : List (List (List ℕ))) → IsPermutation xs ys → AllPairs (λ a b. a ≢ b) xs → AllPairs (λ a b. a ≢ b)
+    ys
 distinct_moved xs ys moved distinct =
     let same = values_same in
     AllPairs-from_IsDistinct same ys

@@ -36,15 +36,18 @@ numbers_push name [] family = last (bytes_eq family.desc.name name)
     last true = refl
     last false = refl
 numbers_push name (first ∷ families) family =
-    ap (λ l. (if bytes_eq first.desc.name name then 0 ∷ [] else []) ++ map (λ number. suc number) l) (numbers_push name families family)
+    ap (λ l. (if bytes_eq first.desc.name name then 0 ∷ [] else []) ++ map (λ number. suc number) l) (numbers_push name families
+    family)
     ∙ ap (λ l. (if bytes_eq first.desc.name name then 0 ∷ [] else []) ++ l)
     (map-append (λ number. suc number) (numbers_of name families)
     (if bytes_eq family.desc.name name then length families ∷ [] else [])
     ∙ ap (λ l. map (λ number. suc number) (numbers_of name families) ++ l) (one (bytes_eq family.desc.name name)))
-    ∙ sym (append_assoc (if bytes_eq first.desc.name name then 0 ∷ [] else []) (map (λ number. suc number) (numbers_of name families))
+    ∙ sym (append_assoc (if bytes_eq first.desc.name name then 0 ∷ [] else []) (map (λ number. suc number) (numbers_of name
+    families))
     (if bytes_eq family.desc.name name then suc (length families) ∷ [] else []))
   where
-    one : (b : Bool) → map (λ number. suc number) (if b then length families ∷ [] else []) ≡ (if b then suc (length families) ∷ [] else [])
+    one : (b : Bool) → map (λ number. suc number) (if b then length families ∷ [] else []) ≡ (if b then suc (length families) ∷ []
+        else [])
     one true = refl
     one false = refl
 
@@ -54,12 +57,14 @@ pub numbers_made : (name : List ℕ) (families : List Family) (number : ℕ) (ch
 numbers_made name [] number child = refl
 numbers_made name (family ∷ families) zero child = refl
 numbers_made name (family ∷ families) (suc number) child =
-    ap (λ l. (if bytes_eq family.desc.name name then 0 ∷ [] else []) ++ map (λ n. suc n) l) (numbers_made name families number child)
+    ap (λ l. (if bytes_eq family.desc.name name then 0 ∷ [] else []) ++ map (λ n. suc n) l) (numbers_made name families number
+    child)
 
 module _ {S : Type 0} (name : List ℕ) where
   -- another board with the same numbers of this name
   pub places_set_same : (boards : List (RegistryView S)) (i : ℕ) (a b : RegistryView S) → slice_get boards i ≡ Some a
-      → numbers_of name b.state.families ≡ numbers_of name a.state.families → places_of name (set boards i b) ≡ places_of name boards
+      → numbers_of name b.state.families ≡ numbers_of name a.state.families → places_of name (set boards i b) ≡ places_of name
+      boards
   places_set_same [] i a b is same = absurd (cc)
   places_set_same (board ∷ boards) zero a b is same =
       let here : a ≡ board = cc in
@@ -75,7 +80,8 @@ module _ {S : Type 0} (name : List ℕ) where
   places_set_more [] i a b number is more = absurd (cc)
   places_set_more (board ∷ boards) zero a b number is more =
       let here : a ≡ board = cc in
-      let front : map (part_at 0) (numbers_of name board.state.families) ++ part_at 0 number ∷ [] ≡ map (part_at 0) (numbers_of name b.state.families) =
+      let front : map (part_at 0) (numbers_of name board.state.families) ++ part_at 0 number ∷ [] ≡ map (part_at 0) (numbers_of
+      name b.state.families) =
       sym (ap (map (part_at 0)) (more ∙ ap (λ (r : RegistryView S). numbers_of name r.state.families ++ number ∷ []) here)
       ∙ map-append (part_at 0) (numbers_of name board.state.families) (number ∷ [])) in
       moved_front (map (part_at 0) (numbers_of name board.state.families)) (map (part_at 0) (numbers_of name b.state.families))
@@ -97,7 +103,8 @@ module _ {S : Type 0} (name : List ℕ) where
 
 -- what has this number among families of this name has the name
 pub numbers_named : (name : List ℕ) (families : List Family)
-    → Each (λ number. IsSomeAnd (slice_get families number) (λ (family : Family). family.desc.name ≡ name)) (numbers_of name families)
+    → Each (λ number. IsSomeAnd (slice_get families number) (λ (family : Family). family.desc.name ≡ name)) (numbers_of name
+    families)
 numbers_named name [] = tt
 numbers_named name (family ∷ families) =
     each_append (λ number. IsSomeAnd (slice_get (family ∷ families) number) (λ (it : Family). it.desc.name ≡ name))

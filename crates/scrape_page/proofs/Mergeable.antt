@@ -1,6 +1,7 @@
 -- The scrapes of a page's boards can be merged.
 use Rattle.std.proofs.Common.{◌≡◌, ◌≢◌, ℕ, zero, suc, ◌+◌, ◌*◌, ◌<◌, ◌≤◌, List, [], ◌∷◌, length, map, get_or, All, AllPairs}
-use Rattle.std.proofs.Common.{Contains, Option, Some, None, slice_get, IsSomeAnd, refl, sym, ap, subst, ◌∙◌, arith, inl, inr, add-one}
+use Rattle.std.proofs.Common.{Contains, Option, Some, None, slice_get, IsSomeAnd, refl, sym, ap, subst, ◌∙◌, arith, inl, inr}
+use Rattle.std.proofs.Common.{add-one}
 use Rattle.std.specs.Prelude.{flat_map, zip}
 use Rattle.std.specs.List.{AllZip, range_with_len}
 use Rattle.std.specs.List.Sorted.{IsPermutation}
@@ -48,7 +49,8 @@ shifted f x xs d a (suc n) =
     ap (λ y. f y ∷ map (λ i. f (get_or (x ∷ xs) i d)) (range_with_len (a + 1 + 1) n)) e
     ∙ ap (λ rest. f (get_or xs a d) ∷ rest) (shifted f x xs d (a + 1) n)
 
-by_number : {X Y : Type 0} (f : X → Y) (xs : List X) (d : X) → map (λ i. f (get_or xs i d)) (range_with_len 0 (length xs)) ≡ map f xs
+by_number : {X Y : Type 0} (f : X → Y) (xs : List X) (d : X) → map (λ i. f (get_or xs i d)) (range_with_len 0 (length xs)) ≡ map f
+    xs
 by_number f [] d = refl
 by_number f (x ∷ xs) d = ap (λ rest. f x ∷ rest) (shifted f x xs d 0 (length xs) ∙ by_number f xs d)
 
@@ -118,7 +120,8 @@ module _ {S : Type 0} (boards : List (RegistryView S)) (families : List PageFami
         (children_of family.desc.name (families_of parts)) (children_are n c h family.desc.name boards parts all)
         (pairs_unmap (λ (a b : List (List ℕ)). a ≢ b) (λ (child : ChildShown). child.values)
         (flat_map (shown_on c h family.desc.name) (zip boards (answers_of n c h boards parts all)))
-        (subst (AllPairs (λ (a b : List (List ℕ)). a ≢ b)) (sym (values_are n c h family.desc.name boards parts all)) spread.distinct))
+        (subst (AllPairs (λ (a b : List (List ℕ)). a ≢ b)) (sym (values_are n c h family.desc.name boards parts all))
+        spread.distinct))
 
     count_of : (family : PageFamily) → IsSpread boards family
         → length (children_of family.desc.name (families_of parts)) ≡ family.children
@@ -132,10 +135,12 @@ module _ {S : Type 0} (boards : List (RegistryView S)) (families : List PageFami
     named_of : (family : PageFamily) → IsSpread boards family
         → length (named family.desc.name (families_of parts)) ≡ length family.parts
     named_of family spread =
-        named_are n c h family.desc.name boards parts all ∙ sym (length_permutation (places_of family.desc.name boards) family.parts spread.parts)
+        named_are n c h family.desc.name boards parts all ∙ sym (length_permutation (places_of family.desc.name boards)
+        family.parts spread.parts)
 
     -- what holds of a frame where it holds of the frames of each family
-    each_frame : (Q : Frame → Type 0) → ((frame : Frame) (family : PageFamily) → IsFrameOf frame family → IsSpread boards family → Q frame)
+    each_frame : (Q : Frame → Type 0) → ((frame : Frame) (family : PageFamily) → IsFrameOf frame family → IsSpread boards family →
+        Q frame)
         → All Q frames.families
     each_frame Q by =
         zip_all (λ number. number < length (map as_family families))
@@ -162,17 +167,21 @@ module _ {S : Type 0} (boards : List (RegistryView S)) (families : List PageFami
           (λ i j. IsBefore (desc_at families i).name (desc_at families j).name)
           (λ i j. ¬ (Clash (desc_at families i) (desc_at families j))) order apart_at below held.ordered.rising);
       known = known_are n c h (Contains (descs_in frames.families)) boards parts all
-          (All-weaker (λ (board : RegistryView S). All (λ (family : Family). Contains (descs_of families) family.desc) board.state.families)
-          (λ (board : RegistryView S). All (λ (family : Family). Contains (descs_in frames.families) family.desc) board.state.families)
+          (All-weaker (λ (board : RegistryView S). All (λ (family : Family). Contains (descs_of families) family.desc)
+          board.state.families)
+          (λ (board : RegistryView S). All (λ (family : Family). Contains (descs_in frames.families) family.desc)
+          board.state.families)
           (λ board known. All-weaker (λ (family : Family). Contains (descs_of families) family.desc)
           (λ (family : Family). Contains (descs_in frames.families) family.desc)
           (λ family there. Contains-permutation (descs_of families) (descs_in frames.families) family.desc descs_moved there)
           board.state.families known)
           boards held.page_is.known);
       distinct = each_frame
-          (λ (frame : Frame). AllPairs (λ (a b : ChildShown). a.values ≢ b.values) (children_of frame.desc.name (families_of parts)))
+          (λ (frame : Frame). AllPairs (λ (a b : ChildShown). a.values ≢ b.values) (children_of frame.desc.name (families_of
+          parts)))
           (λ frame family is spread.
-          subst (λ (desc : Descriptor). AllPairs (λ (a b : ChildShown). a.values ≢ b.values) (children_of desc.name (families_of parts)))
+          subst (λ (desc : Descriptor). AllPairs (λ (a b : ChildShown). a.values ≢ b.values) (children_of desc.name (families_of
+          parts)))
           (sym is.desc) (distinct_of family spread));
       limit = each_frame (λ (frame : Frame). length (children_of frame.desc.name (families_of parts)) ≤ 256)
           (λ frame family is spread.

@@ -1,5 +1,6 @@
 -- What the families of a name come to, on boards and in their scrapes.
-use Rattle.std.proofs.Common.{◌≡◌, ℕ, zero, suc, ◌+◌, ◌*◌, ◌<◌, true, false, Bool, List, [], ◌∷◌, ◌++◌, length, map, get_or, set, All}
+use Rattle.std.proofs.Common.{◌≡◌, ℕ, zero, suc, ◌+◌, ◌*◌, ◌<◌, true, false, Bool, List, [], ◌∷◌, ◌++◌, length, map, get_or}
+use Rattle.std.proofs.Common.{set, All}
 use Rattle.std.proofs.Common.{refl, sym, ap, ap₂, subst, ◌∙◌, arith, append_assoc, length-append}
 use Rattle.std.specs.Prelude.{flat_map, zip, if◌then◌else◌, Some}
 use Rattle.std.specs.List.{AllZip, swap}
@@ -9,7 +10,8 @@ use Rattle.std.proofs.lemmas.List.{get_or_default, length-map, map-append}
 use Rattle.std.proofs.lemmas.List.Concat.{flat_map-append}
 use Rattle.std.proofs.lemmas.List.Elements.{All-append, All-map, All-head, All-nil, All-tail}
 use Rattle.std.proofs.lemmas.List.Folds.{flat_map-map}
-use Rattle.std.proofs.lemmas.List.Sorted.{IsPermutation-refl, IsPermutation-trans, IsPermutation-append, IsPermutation-append_left}
+use Rattle.std.proofs.lemmas.List.Sorted.{IsPermutation-refl, IsPermutation-trans, IsPermutation-append}
+use Rattle.std.proofs.lemmas.List.Sorted.{IsPermutation-append_left}
 use Rattle.std.proofs.lemmas.List.Sorted.{IsPermutation-append_right, IsPermutation-append_comm, IsPermutation-keeps}
 use Rattle.std.proofs.lemmas.List.Sorted.{length_permutation, All-permutation}
 use Rattle.metric_desc.specs.Desc.{Descriptor}
@@ -37,9 +39,11 @@ module _ {X Y : Type 0} (f : X → List Y) where
       → IsPermutation (f y ++ flat_map f xs) (f x ++ flat_map f (set xs i y))
   replaced [] i x y within is = absurd (omega (arith, within))
   replaced (z ∷ xs) zero x y within is =
-      subst (λ w. IsPermutation (f y ++ (f z ++ flat_map f xs)) (f w ++ (f y ++ flat_map f xs))) is (crossed (f y) (f z) (flat_map f xs))
+      subst (λ w. IsPermutation (f y ++ (f z ++ flat_map f xs)) (f w ++ (f y ++ flat_map f xs))) is (crossed (f y) (f z) (flat_map
+      f xs))
   replaced (z ∷ xs) (suc i) x y within is =
-      IsPermutation-trans (f y ++ (f z ++ flat_map f xs)) (f z ++ (f y ++ flat_map f xs)) (f x ++ (f z ++ flat_map f (set xs i y)))
+      IsPermutation-trans (f y ++ (f z ++ flat_map f xs)) (f z ++ (f y ++ flat_map f xs)) (f x ++ (f z ++ flat_map f (set xs i
+      y)))
       (crossed (f y) (f z) (flat_map f xs))
       (IsPermutation-trans (f z ++ (f y ++ flat_map f xs)) (f z ++ (f x ++ flat_map f (set xs i y)))
       (f x ++ (f z ++ flat_map f (set xs i y)))
@@ -77,7 +81,8 @@ module _ {X Y : Type 0} (f : X → List Y) where
       ys moved
 
 -- One board.
-module _ (c h : ℕ) (name : List ℕ) (families : List Family) (answer : Answer) (part : Scraped) (is : IsShown c h families answer part) where
+module _ (c h : ℕ) (name : List ℕ) (families : List Family) (answer : Answer) (part : Scraped) (is : IsShown c h families answer
+    part) where
   children_part : IsPermutation
       (of_name (λ (family : Family). map (child_shown c h answer.totals family.desc.kind) family.children) name families)
       (children_of name part.families)
@@ -121,7 +126,8 @@ values_shown : (c h : ℕ) (name totals : List ℕ) (families : List Family)
     ≡ of_name values_in name families
 values_shown c h name totals [] = refl
 values_shown c h name totals (family ∷ families) =
-    map-append values (if bytes_eq family.desc.name name then map (child_shown c h totals family.desc.kind) family.children else [])
+    map-append values (if bytes_eq family.desc.name name then map (child_shown c h totals family.desc.kind) family.children else
+    [])
     (of_name (λ (family : Family). map (child_shown c h totals family.desc.kind) family.children) name families)
     ∙ ap₂ (λ (first rest : List (List (List ℕ))). first ++ rest) (by (bytes_eq family.desc.name name))
     (values_shown c h name totals families)
@@ -142,7 +148,8 @@ values_shown c h name totals (family ∷ families) =
 -- All boards, each with its scrape.
 module _ {S : Type 0} (n c h : ℕ) where
   -- the answers that they show
-  abbrev pub answers_of : (boards : List (RegistryView S)) (parts : List Scraped) → AllZip (IsPartOf n c h) boards parts → List Answer
+  abbrev pub answers_of : (boards : List (RegistryView S)) (parts : List Scraped) → AllZip (IsPartOf n c h) boards parts → List
+      Answer
   answers_of [] [] all = []
   answers_of [] (part ∷ parts) all = []
   answers_of (board ∷ boards) [] all = []
@@ -157,7 +164,8 @@ module _ {S : Type 0} (n c h : ℕ) where
   newest_are (board ∷ boards) (part ∷ parts) all = ap₂ (λ first rest. first ∷ rest) all.0.last (newest_are boards parts all.1)
 
   pub vectors_are : (boards : List (RegistryView S)) (parts : List Scraped) (all : AllZip (IsPartOf n c h) boards parts)
-      → flat_map (λ (part : Scraped). part.vector) parts ≡ flat_map (λ (answer : Answer). answer.vector) (answers_of boards parts all)
+      → flat_map (λ (part : Scraped). part.vector) parts ≡ flat_map (λ (answer : Answer). answer.vector) (answers_of boards parts
+      all)
   vectors_are [] [] all = refl
   vectors_are [] (part ∷ parts) all = absurd all
   vectors_are (board ∷ boards) [] all = absurd all
@@ -173,14 +181,17 @@ module _ {S : Type 0} (n c h : ℕ) where
   vectors_long (board ∷ boards) (part ∷ parts) all =
       let here : length part.vector ≡ n = ap length all.0.shown.vector ∙ all.0.numbers in
       let rest = vectors_long boards parts all.1 in
-      length-append part.vector (flat_map (λ (part : Scraped). part.vector) parts) ∙ ap₂ (λ a b. a + b) here rest ∙ more (length boards)
+      length-append part.vector (flat_map (λ (part : Scraped). part.vector) parts) ∙ ap₂ (λ a b. a + b) here rest ∙ more (length
+      boards)
     where
       more : (m : ℕ) → n + n * m ≡ n * suc m
       more m = omega arith
 
   -- the children of a name that all boards show are those of their scrapes, in another order
-  pub children_are : (name : List ℕ) (boards : List (RegistryView S)) (parts : List Scraped) (all : AllZip (IsPartOf n c h) boards parts)
-      → IsPermutation (flat_map (shown_on c h name) (zip boards (answers_of boards parts all))) (children_of name (families_of parts))
+  pub children_are : (name : List ℕ) (boards : List (RegistryView S)) (parts : List Scraped) (all : AllZip (IsPartOf n c h) boards
+      parts)
+      → IsPermutation (flat_map (shown_on c h name) (zip boards (answers_of boards parts all))) (children_of name (families_of
+      parts))
   children_are name [] [] all = IsPermutation-refl []
   children_are name [] (part ∷ parts) all = absurd all
   children_are name (board ∷ boards) [] all = absurd all
@@ -194,7 +205,8 @@ module _ {S : Type 0} (n c h : ℕ) where
       (children_are name boards parts all.1))
 
   -- and their values are those of the children of the name
-  pub values_are : (name : List ℕ) (boards : List (RegistryView S)) (parts : List Scraped) (all : AllZip (IsPartOf n c h) boards parts)
+  pub values_are : (name : List ℕ) (boards : List (RegistryView S)) (parts : List Scraped) (all : AllZip (IsPartOf n c h) boards
+      parts)
       → map (λ (child : ChildShown). child.values) (flat_map (shown_on c h name) (zip boards (answers_of boards parts all)))
       ≡ values_of name boards
   values_are name [] [] all = refl

@@ -20,7 +20,8 @@ use Rattle.scrape_page.specs.Calls.{AddsPart}
 use Rattle.scrape_page.specs.Kept.{IsPage, IsSpread, IsHeldPage}
 use Rattle.scrape_page.proofs.Valued.{each_unmap, each_front, each_back}
 use Rattle.scrape_page.proofs.Facts.{all_there, HasNone}
-use Rattle.scrape_page.proofs.Registered.{as_many, same_ids, same_values, other_places, own_places, all_registered, once_registered}
+use Rattle.scrape_page.proofs.Registered.{as_many, same_ids, same_values, other_places, own_places, all_registered}
+use Rattle.scrape_page.proofs.Registered.{once_registered}
 use Rattle.scrape_page.proofs.Counted.{fewer_on, apart_part}
 use Rattle.scrape_page.proofs.Replaced.{held_replaced}
 use Rattle.scrape_page.proofs.Born.{some_there}
@@ -44,7 +45,8 @@ no_number X never name (family ∷ families) all =
     first false is here = λ same. let no : false ≡ true = is.1 same in absurd (cc)
 
 -- where all places of a name are on boards of which this is not one, no family of it has the name
-pub none_on : {S : Type 0} (Q : ℕ → Type 0) (name : List ℕ) (boards : List (RegistryView S)) (i : ℕ) (board : RegistryView S) → ¬ (Q i)
+pub none_on : {S : Type 0} (Q : ℕ → Type 0) (name : List ℕ) (boards : List (RegistryView S)) (i : ℕ) (board : RegistryView S) → ¬
+    (Q i)
     → slice_get boards i ≡ Some board → Each (λ (part : Part). Q part.board) (places_of name boards) → HasNone name board
 none_on Q name [] i board never there all = absurd (cc)
 none_on {S} Q name (first ∷ boards) zero board never there all =
@@ -79,7 +81,8 @@ abbrev pub MayTake : {S : Type 0} (c h g : ℕ) → PageView S → (number place
 MayTake c h g page number place = IsSomeAnd (slice_get page.families number) (Takable c h g page.boards place)
 
 -- then no family of that board has its name
-pub lacks : {S : Type 0} (c h g : ℕ) (page : PageView S) (number place : ℕ) (p : PageFamily) (board : RegistryView S) → IsPage page
+pub lacks : {S : Type 0} (c h g : ℕ) (page : PageView S) (number place : ℕ) (p : PageFamily) (board : RegistryView S) → IsPage
+    page
     → slice_get page.families number ≡ Some p → Takable c h g page.boards place p → slice_get page.boards place ≡ Some board
     → HasNone p.desc.name board
 lacks {S} c h g page number place p board is at may there =
@@ -105,10 +108,12 @@ can_take {S} c h g page order number place held may =
     let board : RegistryView S = roomy.0 in
     let none : HasNone p.desc.name board = lacks c h g page number place p board held.page_is chosen.1 chosen.2 roomy.1 in
     let few : length page.families ≤ 128 = held.page_is.few in
-    let fewer : length board.state.families < length page.families = fewer_on page order held place board roomy.1 number p chosen.1 none in
+    let fewer : length board.state.families < length page.families = fewer_on page order held place board roomy.1 number p
+    chosen.1 none in
     some_at (λ (it : PageFamily). IsSomeAnd (slice_get page.boards place)
     (λ (b : RegistryView S). (length b.state.families < 128) × IsApart b.state.families it.desc)) page.families number p chosen.1
-    (some_at (λ (b : RegistryView S). (length b.state.families < 128) × IsApart b.state.families p.desc) page.boards place board roomy.1
+    (some_at (λ (b : RegistryView S). (length b.state.families < 128) × IsApart b.state.families p.desc) page.boards place board
+    roomy.1
     (omega (arith, few, fewer), apart_part page order held place board roomy.1 number p chosen.1 none))
 
 -- what holds of the first, with more behind it
@@ -127,10 +132,12 @@ module _ {S : Type 0} (old new : PageView S) (number : ℕ) (part : Part) (adds 
     distinct = subst (AllPairs (λ a b. a ≢ b))
         (sym (same_values old.boards new.boards part.board part.family.number adds.family.desc adds.registered q.desc.name))
         spread.distinct;
-    count = ap length (same_values old.boards new.boards part.board part.family.number adds.family.desc adds.registered q.desc.name)
+    count = ap length (same_values old.boards new.boards part.board part.family.number adds.family.desc adds.registered
+        q.desc.name)
         ∙ spread.count;
     limit = spread.limit;
-    home = subst (λ n. q.home < n) (sym (as_many old.boards new.boards part.board part.family.number adds.family.desc adds.registered))
+    home = subst (λ n. q.home < n) (sym (as_many old.boards new.boards part.board part.family.number adds.family.desc
+        adds.registered))
         spread.home;
   }
 
@@ -145,7 +152,8 @@ module _ {S : Type 0} (old new : PageView S) (number : ℕ) (part : Part) (adds 
         (IsPermutation-append_left (part ∷ []) (places_of adds.family.desc.name old.boards) adds.family.parts spread.parts);
     first = first_push (λ (q : Part). q.board ≡ adds.family.home) adds.family.parts (part ∷ []) spread.first;
     distinct = subst (AllPairs (λ a b. a ≢ b))
-        (sym (same_values old.boards new.boards part.board part.family.number adds.family.desc adds.registered adds.family.desc.name))
+        (sym (same_values old.boards new.boards part.board part.family.number adds.family.desc adds.registered
+        adds.family.desc.name))
         spread.distinct;
     count = ap length (same_values old.boards new.boards part.board part.family.number adds.family.desc adds.registered
         adds.family.desc.name) ∙ spread.count;
@@ -155,15 +163,19 @@ module _ {S : Type 0} (old new : PageView S) (number : ℕ) (part : Part) (adds 
   }
 
   -- a page of which a family took a part
-  pub held_parted : (order : List ℕ) → IsHeldPage old order → HasNone adds.family.desc.name adds.registered.board → IsHeldPage new order
+  pub held_parted : (order : List ℕ) → IsHeldPage old order → HasNone adds.family.desc.name adds.registered.board → IsHeldPage new
+      order
   held_parted order held none =
-      held_replaced old new order held number adds.family (record adds.family { parts = adds.family.parts ++ part ∷ [] }) adds.it refl refl
+      held_replaced old new order held number adds.family (record adds.family { parts = adds.family.parts ++ part ∷ [] }) adds.it
+      refl refl
       adds.families
       (as_many old.boards new.boards part.board part.family.number adds.family.desc adds.registered)
       (same_ids old.boards new.boards part.board part.family.number adds.family.desc adds.registered)
       (all_registered old.boards new.boards part.board part.family.number adds.family.desc adds.registered
-      (λ (f : Family). Contains (descs_of old.families) f.desc) (desc_there old.families number adds.family adds.it) held.page_is.known)
-      (once_registered old.boards new.boards part.board part.family.number adds.family.desc adds.registered held.page_is.once none)
+      (λ (f : Family). Contains (descs_of old.families) f.desc) (desc_there old.families number adds.family adds.it)
+      held.page_is.known)
+      (once_registered old.boards new.boards part.board part.family.number adds.family.desc adds.registered held.page_is.once
+      none)
       spread_other
       (spread_own (all_there (IsSpread old.boards) old.families number adds.family adds.it held.page_is.spread))
 

@@ -34,7 +34,8 @@ pub home_within : {S : Type 0} (c h g : ℕ) (page : PageView S) (kind : Kind) (
     → IsHome c h g page kind group home → home < length page.boards
 home_within c h g page kind group home is (inl any) =
     let p : PageFamily = any.1 in
-    let there : slice_get page.families any.0 ≡ Some p = Rattle.std.proofs.lemmas.Option.slice_get-get_or page.families any.0 p any.2
+    let there : slice_get page.families any.0 ≡ Some p = Rattle.std.proofs.lemmas.Option.slice_get-get_or page.families any.0 p
+    any.2
     ∙ ap Some any.3 in
     let within : p.home < length page.boards = (all_there (IsSpread page.boards) page.families any.0 p there is.spread).home in
     subst (λ n. n < length page.boards) any.4.1 within
@@ -55,7 +56,8 @@ module _ {S : Type 0} (boards boards' : List (RegistryView S)) (at number : ℕ)
   -- with the same ids
   pub same_ids : map (λ (board : RegistryView S). board.id) boards' ≡ map (λ (board : RegistryView S). board.id) boards
   same_ids = ap (map (λ (board : RegistryView S). board.id)) registered.boards
-      ∙ map_set_same (λ (board : RegistryView S). board.id) boards at registered.board (changed (Registered desc) registered.board)
+      ∙ map_set_same (λ (board : RegistryView S). board.id) boards at registered.board (changed (Registered desc)
+      registered.board)
       registered.at refl
 
   -- with the same values
@@ -97,7 +99,8 @@ module _ {S : Type 0} (boards boards' : List (RegistryView S)) (at number : ℕ)
       (all_there Q boards at registered.board registered.at all) new) all)
 
   -- names of a board's families, of which the new one is another
-  pub once_registered : All (λ (board : RegistryView S). AllPairs (λ (a b : Family). a.desc.name ≢ b.desc.name) board.state.families) boards
+  pub once_registered : All (λ (board : RegistryView S). AllPairs (λ (a b : Family). a.desc.name ≢ b.desc.name)
+      board.state.families) boards
       → All (λ (family : Family). family.desc.name ≢ desc.name) registered.board.state.families
       → All (λ (board : RegistryView S). AllPairs (λ (a b : Family). a.desc.name ≢ b.desc.name) board.state.families) boards'
   once_registered once none =
@@ -144,10 +147,12 @@ module _ {S : Type 0} (c h g : ℕ) (old new : PageView S) (desc : Descriptor) (
 
   spread_old : (q : PageFamily) → ¬ (Clash q.desc desc) → IsSpread old.boards q → IsSpread new.boards q
   spread_old q other spread = record {
-    parts = subst (λ l. IsPermutation l q.parts) (sym (other_places old.boards new.boards home adds.number desc adds.registered q.desc.name
+    parts = subst (λ l. IsPermutation l q.parts) (sym (other_places old.boards new.boards home adds.number desc adds.registered
+        q.desc.name
         (λ e. names_apart q.desc desc other (sym e)))) spread.parts;
     first = spread.first;
-    distinct = subst (AllPairs (λ a b. a ≢ b)) (sym (same_values old.boards new.boards home adds.number desc adds.registered q.desc.name))
+    distinct = subst (AllPairs (λ a b. a ≢ b)) (sym (same_values old.boards new.boards home adds.number desc adds.registered
+        q.desc.name))
         spread.distinct;
     count = ap length (same_values old.boards new.boards home adds.number desc adds.registered q.desc.name) ∙ spread.count;
     limit = spread.limit;
@@ -155,9 +160,16 @@ module _ {S : Type 0} (c h g : ℕ) (old new : PageView S) (desc : Descriptor) (
   }
 
   no_value : values_of desc.name new.boards ≡ []
-  no_value = same_values old.boards new.boards home adds.number desc adds.registered desc.name ∙ values_none desc.name old.boards none
+  no_value = same_values old.boards new.boards home adds.number desc adds.registered desc.name ∙ values_none desc.name old.boards
+      none
 
-  spread_new : IsSpread new.boards (record { desc = desc; group = group; home = home; parts = part_at home adds.number ∷ []; children = 0 })
+  spread_new : IsSpread new.boards (record {
+    desc = desc;
+    group = group;
+    home = home;
+    parts = part_at home adds.number ∷ [];
+    children = 0;
+  })
   spread_new = record {
     parts = IsPermutation-sym (part_at home adds.number ∷ []) (places_of desc.name new.boards)
         (subst (λ l. IsPermutation (l ++ part_at home adds.number ∷ []) (places_of desc.name new.boards))
@@ -176,7 +188,13 @@ module _ {S : Type 0} (c h g : ℕ) (old new : PageView S) (desc : Descriptor) (
 
   pub page_registered : IsPage new
   page_registered =
-      let the : PageFamily = record { desc = desc; group = group; home = home; parts = part_at home adds.number ∷ []; children = 0 } in
+      let the : PageFamily = record {
+        desc = desc;
+        group = group;
+        home = home;
+        parts = part_at home adds.number ∷ [];
+        children = 0;
+      } in
       let n = as_many old.boards new.boards home adds.number desc adds.registered in
       let some = is.some in
       let most = is.most in
@@ -188,12 +206,15 @@ module _ {S : Type 0} (c h g : ℕ) (old new : PageView S) (desc : Descriptor) (
         few = let more = ap length adds.families ∙ length_push old.families the in omega (arith, more, few);
         apart = subst (AllPairs (λ (a b : PageFamily). ¬ (Clash a.desc b.desc))) (sym adds.families)
             (all_pairs_push (λ (a b : PageFamily). ¬ (Clash a.desc b.desc)) old.families the is.apart apart);
-        known = subst (λ l. All (λ (board : RegistryView S). All (λ (f : Family). Contains l f.desc) board.state.families) new.boards)
+        known = subst (λ l. All (λ (board : RegistryView S). All (λ (f : Family). Contains l f.desc) board.state.families)
+            new.boards)
             (sym descs)
             (all_registered old.boards new.boards home adds.number desc adds.registered
             (λ (f : Family). Contains (descs_of old.families ++ desc ∷ []) f.desc) (Contains-push (descs_of old.families) desc)
-            (All-weaker (λ (board : RegistryView S). All (λ (f : Family). Contains (descs_of old.families) f.desc) board.state.families)
-            (λ (board : RegistryView S). All (λ (f : Family). Contains (descs_of old.families ++ desc ∷ []) f.desc) board.state.families)
+            (All-weaker (λ (board : RegistryView S). All (λ (f : Family). Contains (descs_of old.families) f.desc)
+            board.state.families)
+            (λ (board : RegistryView S). All (λ (f : Family). Contains (descs_of old.families ++ desc ∷ []) f.desc)
+            board.state.families)
             (λ board all. All-weaker (λ (f : Family). Contains (descs_of old.families) f.desc)
             (λ (f : Family). Contains (descs_of old.families ++ desc ∷ []) f.desc)
             (λ f there. Contains-append_left (descs_of old.families) (desc ∷ []) f.desc there) board.state.families all)
@@ -212,7 +233,14 @@ module _ {S : Type 0} (c h g : ℕ) (old new : PageView S) (desc : Descriptor) (
   held_registered order' place at after = record {
     page_is = page_registered;
     ordered =
-        let the : PageFamily = record { desc = desc; group = group; home = home; parts = part_at home adds.number ∷ []; children = 0 } in
+        let the : PageFamily = record {
+          desc = desc;
+          group = group;
+          home = home;
+          parts = part_at home adds.number ∷ [];
+          children =
+              0;
+        } in
         subst (λ l. IsOrder l order') (sym (ap (map as_family) adds.families ∙ map-append as_family old.families (the ∷ [])))
         (subst (IsOrder (map as_family old.families ++ as_family the ∷ []))
         (ap (λ n. insert order place n) (length-map old.families as_family) ∙ sym after)
@@ -220,7 +248,8 @@ module _ {S : Type 0} (c h g : ℕ) (old new : PageView S) (desc : Descriptor) (
   }
 
 -- a page after a family was registered, or was not
-pub held_either : {S E : Type 0} (c h g : ℕ) (old new : PageView S) (desc : Descriptor) (group home : ℕ) (order order' : List ℕ) (place : ℕ)
+pub held_either : {S E : Type 0} (c h g : ℕ) (old new : PageView S) (desc : Descriptor) (group home : ℕ) (order order' : List ℕ)
+    (place : ℕ)
     → IsHeldPage old order → AreApart old.families desc × (length old.families < 128) → IsHome c h g old desc.kind group home
     → IsPlaceOfName (map as_family old.families) order desc.name place
     → (result : Result (Unit {0}) E) → OnOk result (AddsFamily old new desc group home)

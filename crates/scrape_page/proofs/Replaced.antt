@@ -1,5 +1,6 @@
 -- A page of which one family takes the place of another of the same descriptor.
-use Rattle.std.proofs.Common.{◌≡◌, ◌≢◌, ℕ, ◌<◌, List, [], Some, length, map, set, get_or, sym, ap, subst, ◌∙◌, arith, All, AllPairs}
+use Rattle.std.proofs.Common.{◌≡◌, ◌≢◌, ℕ, ◌<◌, List, [], Some, length, map, set, get_or, sym, ap, subst, ◌∙◌, arith, All}
+use Rattle.std.proofs.Common.{AllPairs}
 use Rattle.std.proofs.Common.{Contains}
 use Rattle.std.specs.Prelude.{slice_get}
 use Rattle.std.proofs.Math.ListN.{length-set}
@@ -42,7 +43,8 @@ module _ {S : Type 0} (old new : PageView S) (order : List ℕ) (held : IsHeldPa
   -- it is a page still, where its boards have what it needs
   pub held_replaced : length new.boards ≡ length old.boards
       → map (λ (board : RegistryView S). board.id) new.boards ≡ map (λ (board : RegistryView S). board.id) old.boards
-      → All (λ (board : RegistryView S). All (λ (f : Family). Contains (descs_of old.families) f.desc) board.state.families) new.boards
+      → All (λ (board : RegistryView S). All (λ (f : Family). Contains (descs_of old.families) f.desc) board.state.families)
+      new.boards
       → All (λ (board : RegistryView S). AllPairs (λ (a b : Family). a.desc.name ≢ b.desc.name) board.state.families) new.boards
       → ((q : PageFamily) → q.desc.name ≢ p.desc.name → IsSpread old.boards q → IsSpread new.boards q)
       → IsSpread new.boards p' → IsHeldPage new order
@@ -59,12 +61,14 @@ module _ {S : Type 0} (old new : PageView S) (order : List ℕ) (held : IsHeldPa
           few = omega (arith, as_many, few);
           apart = pairs_along (λ a b. ¬ (Clash a b)) (λ (q : PageFamily). q.desc) old.families new.families same_descs
               held.page_is.apart;
-          known = subst (λ l. All (λ (board : RegistryView S). All (λ (f : Family). Contains l f.desc) board.state.families) new.boards)
+          known = subst (λ l. All (λ (board : RegistryView S). All (λ (f : Family). Contains l f.desc) board.state.families)
+              new.boards)
               (sym same_descs) known;
           once = once;
           spread = subst (All (IsSpread new.boards)) (sym families)
               (all_others (IsSpread new.boards) old.families number p'
-              (λ k d within differ. others (get_or old.families k d) (other_name k d within differ) (held.page_is.spread k d within))
+              (λ k d within differ. others (get_or old.families k d) (other_name k d within differ) (held.page_is.spread k d
+              within))
               here);
           groups = pairs_along (λ (a b : ℕ × ℕ). a.0 ≡ b.0 → a.1 ≡ b.1) grouped old.families new.families same_groups
               held.page_is.groups;

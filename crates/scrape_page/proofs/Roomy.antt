@@ -62,7 +62,8 @@ module _ {S : Type 0} (c h g : ℕ) (kind : Kind) (boards : List (RegistryView S
   abbrev HasMore : (room families : ℕ) → RegistryView S → Type 0
   HasMore room families board = HasFree c h g kind board room → families < length board.state.families
 
-  -- the board that `IsRoomiest` names among those before this number, and how many families it has; where it has no free slot, none of them has
+  -- the board that `IsRoomiest` names among those before this number, and how many families it has; where it has no free slot,
+  -- none of them has
   pub record IsBest (upto at room families : ℕ) : Type 0 where
     pub board : RegistryView S
     pub there : slice_get boards at ≡ Some board
@@ -86,70 +87,76 @@ module _ {S : Type 0} (c h g : ℕ) (kind : Kind) (boards : List (RegistryView S
     full = λ _. All-nil (λ (b : RegistryView S). ¬ (HasRoom c h g kind b));
   }
 
-  module _ (i at room families : ℕ) (board : RegistryView S) (free count : ℕ) (before : IsBest i at room families) (lt : i < length boards)
-      (read : board ≡ get_or boards i board) (has : HasFree c h g kind board free) (counted : count ≡ length board.state.families) where
-    -- where the board has as many free slots as this, it is this many
-    same_free : (n : ℕ) → HasFree c h g kind board n → free ≡ n
-    same_free n other =
-        let up : free ≤ n = count_most c h g board.state.families kind free n has other in
-        let down : n ≤ free = count_most c h g board.state.families kind n free other has in
-        omega (arith, up, down)
+  module _ (i at room families : ℕ) (board : RegistryView S) (free count : ℕ) (before : IsBest i at room families) (lt : i <
+      length boards)
+      (read : board ≡ get_or boards i board) (has : HasFree c h g kind board free) (counted : count ≡ length board.state.families)
+    where
+      -- where the board has as many free slots as this, it is this many
+      same_free : (n : ℕ) → HasFree c h g kind board n → free ≡ n
+      same_free n other =
+          let up : free ≤ n = count_most c h g board.state.families kind free n has other in
+          let down : n ≤ free = count_most c h g board.state.families kind n free other has in
+          omega (arith, up, down)
 
-    none_full : free ≡ 0 → room ≡ 0 → AreFull c h g kind (take (i + 1) boards)
-    none_full none all = All-more (λ (b : RegistryView S). ¬ (HasRoom c h g kind b)) boards i board lt (before.full all)
-        (subst (λ (b : RegistryView S). ¬ (HasRoom c h g kind b)) read (none_free c h g board.state.families kind free has none))
+      none_full : free ≡ 0 → room ≡ 0 → AreFull c h g kind (take (i + 1) boards)
+      none_full none all = All-more (λ (b : RegistryView S). ¬ (HasRoom c h g kind b)) boards i board lt (before.full all)
+          (subst (λ (b : RegistryView S). ¬ (HasRoom c h g kind b)) read (none_free c h g board.state.families kind free has none))
 
-    -- one more, which is not taken before it
-    pub best_stays : ¬ (Beats free count room families) → IsBest (i + 1) at room families
-    best_stays not = record {
-      board = before.board;
-      there = before.there;
-      free = before.free;
-      count = before.count;
-      most = All-more (HasNoMore room) boards i board lt before.most (subst (HasNoMore room) read
-          (λ n other. let le : n ≤ free = count_most c h g board.state.families kind n free other has in omega (arith, le, no_more)));
-      fewest = All-more (HasAsMany room families) boards i board lt before.fewest (subst (HasAsMany room families) read
-          (λ other. let le : families ≤ count = beaten_families free count room families not (same_free room other) in
-          omega (arith, le, counted)));
-      first = before.first;
-      full = λ none. none_full (omega (arith, none, no_more)) none;
-    }
-      where
-        no_more : free ≤ room
-        no_more = beaten_room free count room families not
+      -- one more, which is not taken before it
+      pub best_stays : ¬ (Beats free count room families) → IsBest (i + 1) at room families
+      best_stays not = record {
+        board = before.board;
+        there = before.there;
+        free = before.free;
+        count = before.count;
+        most = All-more (HasNoMore room) boards i board lt before.most (subst (HasNoMore room) read
+            (λ n other. let le : n ≤ free = count_most c h g board.state.families kind n free other has in omega (
+              arith,
+              le,
+              no_more,
+            )));
+        fewest = All-more (HasAsMany room families) boards i board lt before.fewest (subst (HasAsMany room families) read
+            (λ other. let le : families ≤ count = beaten_families free count room families not (same_free room other) in
+            omega (arith, le, counted)));
+        first = before.first;
+        full = λ none. none_full (omega (arith, none, no_more)) none;
+      }
+        where
+          no_more : free ≤ room
+          no_more = beaten_room free count room families not
 
-    -- one more, which is taken before it
-    pub best_new : Beats free count room families → IsBest (i + 1) i free count
-    best_new beats = record {
-      board = board;
-      there = slice_get_read boards (length boards) i board refl lt read;
-      free = has;
-      count = counted;
-      most = All-more (HasNoMore free) boards i board lt
-          (All-weaker (HasNoMore room) (HasNoMore free)
-          (λ b le n is. let here : n ≤ room = le n is in omega (arith, here, no_less)) (take i boards) before.most)
-          (subst (HasNoMore free) read (λ n is. count_most c h g board.state.families kind n free is has));
-      fewest = All-more (HasAsMany free count) boards i board lt
-          (All-weaker (HasMore free count) (HasAsMany free count)
-          (λ b lt is. let here : count < length b.state.families = lt is in omega (arith, here)) (take i boards) more_before)
-          (subst (HasAsMany free count) read (λ _. omega (arith, counted)));
-      first = more_before;
-      full = λ none. none_full none (omega (arith, none, no_less));
-    }
-      where
-        no_less : room ≤ free
-        no_less = beats_room free count room families beats
+      -- one more, which is taken before it
+      pub best_new : Beats free count room families → IsBest (i + 1) i free count
+      best_new beats = record {
+        board = board;
+        there = slice_get_read boards (length boards) i board refl lt read;
+        free = has;
+        count = counted;
+        most = All-more (HasNoMore free) boards i board lt
+            (All-weaker (HasNoMore room) (HasNoMore free)
+            (λ b le n is. let here : n ≤ room = le n is in omega (arith, here, no_less)) (take i boards) before.most)
+            (subst (HasNoMore free) read (λ n is. count_most c h g board.state.families kind n free is has));
+        fewest = All-more (HasAsMany free count) boards i board lt
+            (All-weaker (HasMore free count) (HasAsMany free count)
+            (λ b lt is. let here : count < length b.state.families = lt is in omega (arith, here)) (take i boards) more_before)
+            (subst (HasAsMany free count) read (λ _. omega (arith, counted)));
+        first = more_before;
+        full = λ none. none_full none (omega (arith, none, no_less));
+      }
+        where
+          no_less : room ≤ free
+          no_less = beats_room free count room families beats
 
-        more_there : (other : RegistryView S) → HasNoMore room other → HasAsMany room families other → HasMore free count other
-        more_there other most fewest is =
-            let le : free ≤ room = most free is in
-            let e : free ≡ room = omega (arith, le, no_less) in
-            let few : count < families = beats_families free count room families beats e in
-            let as_many : families ≤ length other.state.families = fewest (subst (HasFree c h g kind other) e is) in
-            omega (arith, few, as_many)
+          more_there : (other : RegistryView S) → HasNoMore room other → HasAsMany room families other → HasMore free count other
+          more_there other most fewest is =
+              let le : free ≤ room = most free is in
+              let e : free ≡ room = omega (arith, le, no_less) in
+              let few : count < families = beats_families free count room families beats e in
+              let as_many : families ≤ length other.state.families = fewest (subst (HasFree c h g kind other) e is) in
+              omega (arith, few, as_many)
 
-        more_before : All (HasMore free count) (take i boards)
-        more_before k d within = more_there (get_or (take i boards) k d) (before.most k d within) (before.fewest k d within)
+          more_before : All (HasMore free count) (take i boards)
+          more_before k d within = more_there (get_or (take i boards) k d) (before.most k d within) (before.fewest k d within)
 
   pub best_all : (n at room families : ℕ) → length boards ≤ n → IsBest n at room families → IsRoomiest c h g kind boards at room
   best_all n at room families all is = record {

@@ -68,7 +68,8 @@ module _ {S : Type 0} (n c h g : ℕ) (recorded : S → List Answer) (quit : S �
           (descs_moved new families order held_made frames framed);
       children = All-weaker
           (λ (family : FamilyShown). IsPermutation (children_of family.desc.name (families_of parts)) family.children)
-          (λ (family : FamilyShown). IsPermutation (flat_map (shown_on c h family.desc.name) (zip new (answers_of n c h new parts all)))
+          (λ (family : FamilyShown). IsPermutation (flat_map (shown_on c h family.desc.name) (zip new (answers_of n c h new parts
+          all)))
           family.children)
           (λ family moved.
           IsPermutation-trans (flat_map (shown_on c h family.desc.name) (zip new (answers_of n c h new parts all)))

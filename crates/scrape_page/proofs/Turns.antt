@@ -9,7 +9,8 @@ use Rattle.scrape_page.specs.Scraping.{AreMade, IsStoppedAt}
 
 module _ {X : Type 0} (made : X → X → Result Scraped NoScrape → Type 0) where
   -- one more
-  made_push : (old new : List X) (parts : List Scraped) (a b : X) (part : Scraped) → AreMade made old new parts → made a b (Ok part)
+  made_push : (old new : List X) (parts : List Scraped) (a b : X) (part : Scraped) → AreMade made old new parts → made a b (Ok
+      part)
       → AreMade made (old ++ a ∷ []) (new ++ b ∷ []) (parts ++ part ∷ [])
   made_push [] [] [] a b part all one = (one, all)
   made_push [] [] (p ∷ parts) a b part all one = absurd all
@@ -37,7 +38,8 @@ module _ {X : Type 0} (made : X → X → Result Scraped NoScrape → Type 0) wh
     pub made_more : (part : Scraped) → made x y (Ok part)
         → AreMade made (take (i + 1) old) (take (i + 1) (set now i y)) (parts ++ part ∷ [])
     made_more part one =
-        let first : take (i + 1) old ≡ take i old ++ x ∷ [] = take_more old i x in_old ∙ ap (λ z. take i old ++ z ∷ []) (sym same) in
+        let first : take (i + 1) old ≡ take i old ++ x ∷ [] = take_more old i x in_old ∙ ap (λ z. take i old ++ z ∷ []) (sym same)
+        in
         let second : take (i + 1) (set now i y) ≡ take i now ++ y ∷ [] = take_more_set now i y in_now in
         subst (λ l. AreMade made l (take (i + 1) (set now i y)) (parts ++ part ∷ [])) (sym first)
         (subst (λ l. AreMade made (take i old ++ x ∷ []) l (parts ++ part ∷ [])) (sym second)

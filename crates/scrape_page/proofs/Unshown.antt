@@ -22,7 +22,8 @@ is_shown c h families answer = record {
 }
 
 -- what was made is something else as well
-pub unshown_as : {X Y : Type 0} (made : X → X → Result Scraped NoScrape → Type 0) (other : Y → Y → Result Scraped NoScrape → Type 0)
+pub unshown_as : {X Y : Type 0} (made : X → X → Result Scraped NoScrape → Type 0) (other : Y → Y → Result Scraped NoScrape → Type
+    0)
     (a b : X) (x y : Y) → ((r : Result Scraped NoScrape) → made a b r → other x y r) → (result : Result (Unit {0}) NoScrape)
     → Unshown made a b result → Unshown other x y result
 unshown_as made other a b x y so (Ok done) kept = (kept.0, so (Ok kept.0) kept.1)

@@ -34,20 +34,24 @@ here_more : (b : Bool) (child : Child) (xs : List Child)
     → IsPermutation ((if b then map (λ (c : Child). c.values) xs else []) ++ (if b then child.values ∷ [] else []))
     (if b then map (λ (c : Child). c.values) (put child xs) else [])
 here_more true child xs =
-    subst (λ l. IsPermutation l (map (λ (c : Child). c.values) (put child xs))) (map-append (λ (c : Child). c.values) xs (child ∷ []))
+    subst (λ l. IsPermutation l (map (λ (c : Child). c.values) (put child xs))) (map-append (λ (c : Child). c.values) xs (child ∷
+    []))
     (IsPermutation-map (λ (c : Child). c.values) (xs ++ child ∷ []) (put child xs) (put_moves child xs))
 here_more false child xs = IsPermutation-refl []
 
 -- one child more of the family of this number
-pub made_among : (name : List ℕ) (families : List Family) (number : ℕ) (it : Family) (child : Child) → slice_get families number ≡ Some it
-    → IsPermutation (of_name values_in name families ++ added it name child) (of_name values_in name (with_child families number child))
+pub made_among : (name : List ℕ) (families : List Family) (number : ℕ) (it : Family) (child : Child) → slice_get families number ≡
+    Some it
+    → IsPermutation (of_name values_in name families ++ added it name child) (of_name values_in name (with_child families number
+    child))
 made_among name [] number it child is = absurd (cc)
 made_among name (family ∷ families) zero it child is =
     let same : it ≡ family = cc in
     moved_front (if bytes_eq family.desc.name name then values_in family else [])
     (if bytes_eq family.desc.name name then map (λ (c : Child). c.values) (put child family.children) else [])
     (of_name values_in name families) (added it name child)
-    (subst (λ (f : Family). IsPermutation ((if bytes_eq family.desc.name name then values_in family else []) ++ added f name child)
+    (subst (λ (f : Family). IsPermutation ((if bytes_eq family.desc.name name then values_in family else []) ++ added f name
+    child)
     (if bytes_eq family.desc.name name then map (λ (c : Child). c.values) (put child family.children) else [])) (sym same)
     (here_more (bytes_eq family.desc.name name) child family.children))
 made_among name (family ∷ families) (suc number) it child is =
@@ -67,18 +71,21 @@ module _ {S : Type 0} (name : List ℕ) where
       → IsPermutation (values_of name boards ++ added it name child) (values_of name (set boards i b))
   values_made boards i a b number it child at is after =
       flat_set (λ (board : RegistryView S). of_name values_in name board.state.families) boards i a b (added it name child) at
-      (subst (λ l. IsPermutation (of_name values_in name a.state.families ++ added it name child) (of_name values_in name l)) (sym after)
+      (subst (λ l. IsPermutation (of_name values_in name a.state.families ++ added it name child) (of_name values_in name l)) (sym
+      after)
       (made_among name a.state.families number it child is))
 
   -- a board with one family more, without children
-  pub values_registered : (boards : List (RegistryView S)) (i : ℕ) (a b : RegistryView S) (family : Family) → slice_get boards i ≡ Some a
+  pub values_registered : (boards : List (RegistryView S)) (i : ℕ) (a b : RegistryView S) (family : Family) → slice_get boards i ≡
+      Some a
       → family.children ≡ [] → b.state.families ≡ a.state.families ++ family ∷ []
       → values_of name (set boards i b) ≡ values_of name boards
   values_registered boards i a b family at none after =
       flat_set_same (λ (board : RegistryView S). of_name values_in name board.state.families) boards i a b at
       (ap (of_name values_in name) after
       ∙ flat_map-append (λ (f : Family). if bytes_eq f.desc.name name then values_in f else []) a.state.families (family ∷ [])
-      ∙ ap (λ l. of_name values_in name a.state.families ++ ((if bytes_eq family.desc.name name then map (λ (c : Child). c.values) l else []) ++ [])) none
+      ∙ ap (λ l. of_name values_in name a.state.families ++ ((if bytes_eq family.desc.name name then map (λ (c : Child). c.values)
+      l else []) ++ [])) none
       ∙ ap (λ l. of_name values_in name a.state.families ++ l) (nothing (bytes_eq family.desc.name name))
       ∙ append-nil (of_name values_in name a.state.families))
 
@@ -108,7 +115,8 @@ module _ (name : List ℕ) (values : List (List ℕ)) where
   Other other = other ≢ values
 
   new_among : (families : List Family)
-      → Each (λ number. IsSomeAnd (slice_get families number) (λ (family : Family). IsNew family values)) (numbers_of name families)
+      → Each (λ number. IsSomeAnd (slice_get families number) (λ (family : Family). IsNew family values)) (numbers_of name
+      families)
       → Each Other (of_name values_in name families)
   new_among [] all = tt
   new_among (family ∷ families) all =
@@ -135,7 +143,8 @@ module _ (name : List ℕ) (values : List (List ℕ)) where
       let front = map (part_at 0) (numbers_of name board.state.families) in
       let back = map next_board (places_of name boards) in
       each_append Other (of_name values_in name board.state.families) (values_of name boards)
-      (new_among board.state.families (each_unmap P (part_at 0) (numbers_of name board.state.families) (each_front P front back all)))
+      (new_among board.state.families (each_unmap P (part_at 0) (numbers_of name board.state.families) (each_front P front back
+      all)))
       (each_new boards (each_unmap P next_board (places_of name boards) (each_back P front back all)))
 
   -- values that no family of the name has are on no board
@@ -146,7 +155,8 @@ module _ (name : List ℕ) (values : List (List ℕ)) where
       (recursion_from_All (λ part. HasPart boards part (λ _ (family : Family). IsNew family values)) (places_of name boards) all))
 
   among_new : (families : List Family) → Each Other (of_name values_in name families)
-      → Each (λ number. IsSomeAnd (slice_get families number) (λ (family : Family). IsNew family values)) (numbers_of name families)
+      → Each (λ number. IsSomeAnd (slice_get families number) (λ (family : Family). IsNew family values)) (numbers_of name
+      families)
   among_new [] all = tt
   among_new (family ∷ families) all =
       let P : ℕ → Type 0 = λ number. IsSomeAnd (slice_get (family ∷ families) number) (λ (it : Family). IsNew it values) in
@@ -158,7 +168,8 @@ module _ (name : List ℕ) (values : List (List ℕ)) where
       (of_name values_in name families) all)))
     where
       first : (b : Bool) → Each Other (if b then values_in family else [])
-          → Each (λ number. IsSomeAnd (slice_get (family ∷ families) number) (λ (it : Family). IsNew it values)) (if b then 0 ∷ [] else [])
+          → Each (λ number. IsSomeAnd (slice_get (family ∷ families) number) (λ (it : Family). IsNew it values)) (if b then 0 ∷ []
+          else [])
       first true all = (
         All-from_recursion (λ (c : Child). c.values ≢ values) family.children
             (each_unmap Other (λ (c : Child). c.values) family.children all),

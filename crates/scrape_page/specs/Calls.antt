@@ -31,7 +31,8 @@ module _ {S : Type 0} where
     pub made : WasMade c h g board board' part.family.number values handle
     pub boards : new ≡ slice_set old part.board board'
 
-  -- a family of this descriptor was registered on this board, behind the families that are there, and is the last family of the page
+  -- a family of this descriptor was registered on this board, behind the families that are there, and is the last family of the
+  -- page
   pub record AddsFamily (old new : PageView S) (desc : Descriptor) (group home : ℕ) : Type 0 where
     pub number : ℕ
     pub registered : IsRegisteredOn old.boards new.boards home desc number
@@ -62,7 +63,8 @@ module _ {S : Type 0} where
   pub record TakesPart (c h g : ℕ) (old new : PageView S) (number : ℕ) (part : Part) : Type 0 where
     pub room : ℕ
     pub some : 0 < room
-    pub full : IsSomeAnd (slice_get old.families number) (λ (it : PageFamily). All (IsFullPart c h g it.desc.kind old.boards) it.parts
+    pub full : IsSomeAnd (slice_get old.families number) (λ (it : PageFamily). All (IsFullPart c h g it.desc.kind old.boards)
+        it.parts
         × IsRoomiest c h g it.desc.kind old.boards part.board room)
     pub taken : AddsPart old new number part
 
@@ -74,7 +76,8 @@ module _ {S : Type 0} where
   module _ (c h g : ℕ) (old new : PageView S) (number : ℕ) (values : List (List ℕ)) (handle : Handle) where
     -- the child was there, on some board, and nothing changed
     pub record WasFound : Type 0 where
-      pub found : IsSomeAnd (slice_get old.families number) (λ (it : PageFamily). Any (IsFoundAt old.boards values handle) it.parts)
+      pub found : IsSomeAnd (slice_get old.families number) (λ (it : PageFamily). Any (IsFoundAt old.boards values handle)
+          it.parts)
       pub same : new ≡ old
 
     -- it was made, of a family that may have one more, on the board of the first part with a free slot
@@ -89,7 +92,8 @@ module _ {S : Type 0} where
     pub record WasMadeFurther : Type 0 where
       pub part : Part
       pub mid : PageView S
-      pub missing : IsSomeAnd (slice_get old.families number) (λ (it : PageFamily). IsMissing old.boards it values × (it.children < 256))
+      pub missing : IsSomeAnd (slice_get old.families number) (λ (it : PageFamily). IsMissing old.boards it values × (it.children
+          < 256))
       pub taken : TakesPart c h g old mid number part
       pub made : AddsChild c h g mid new number part values handle
 
@@ -97,8 +101,8 @@ module _ {S : Type 0} where
     abbrev pub IsGivenOnPage : Type 0
     IsGivenOnPage = WasFound ⊎ (WasMadeThere ⊎ WasMadeFurther)
 
-  -- What a refusal of a child leaves: everything as it was; or, where memory was refused, the part that the family took for the child,
-  -- without it
+  -- What a refusal of a child leaves: everything as it was; or, where memory was refused, the part that the family took for the
+  -- child, without it
   abbrev pub LeavesPage : (c h g : ℕ) → (old new : PageView S) → (number : ℕ) → PageChildFault → Type 0
   LeavesPage c h g old new number NoMemory = (new ≡ old) ⊎ ((part : Part) × TakesPart c h g old new number part)
   LeavesPage c h g old new number _ = new ≡ old

@@ -5,8 +5,8 @@ use Rattle.registry_state.specs.Replay.{Family}
 use Rattle.registry_state.specs.Kept.{RegistryView}
 use Rattle.scrape_page.specs.declared.family.Part.{Part}
 
--- a family of a page: what it is; its group, and the board that the group is on; where its children are: its parts, each a family of a
--- board; and how many children there are on all boards
+-- a family of a page: what it is; its group, and the board that the group is on; where its children are: its parts, each a family
+-- of a board; and how many children there are on all boards
 pub record PageFamily : Type 0 where
   pub desc : Descriptor
   pub group : ℕ

@@ -4,8 +4,8 @@ use Rattle.std.specs.List.{AllZip}
 use Rattle.scrape_merge.specs.Frames.{Frame}
 use Rattle.scrape_page.specs.Families.{PageFamily}
 
--- a family of a page as one of a merge: it has one part at most, whose children are taken as they are, or else there is room for all of
--- its children
+-- a family of a page as one of a merge: it has one part at most, whose children are taken as they are, or else there is room for
+-- all of its children
 pub record IsFrameOf (frame : Frame) (family : PageFamily) : Type 0 where
   pub desc : frame.desc ≡ family.desc
   pub single : frame.single ≡ true → length family.parts ≤ 1

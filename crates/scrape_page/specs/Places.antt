@@ -35,7 +35,8 @@ module _ {S : Type 0} where
   -- the places of the families of this name: those on the first board, and those on the others
   abbrev pub places_of : List ℕ → List (RegistryView S) → List Part
   places_of name [] = []
-  places_of name (board ∷ boards) = map (part_at 0) (numbers_of name board.state.families) ++ map next_board (places_of name boards)
+  places_of name (board ∷ boards) = map (part_at 0) (numbers_of name board.state.families) ++ map next_board (places_of name
+      boards)
 
   -- the board of a part, and its family there, have this property
   abbrev pub HasPart : List (RegistryView S) → Part → (RegistryView S → Family → Type 0) → Type 0

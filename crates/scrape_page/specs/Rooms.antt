@@ -13,8 +13,8 @@ module _ {S : Type 0} (c h g : ℕ) (kind : Kind) where
   abbrev pub HasFree : RegistryView S → ℕ → Type 0
   HasFree board count = AreFree c h g board.state.families kind count
 
-  -- the board of this number has so many free slots of the kind, and none has more; of those that have as many it has fewest families, and
-  -- of several such it is the first
+  -- the board of this number has so many free slots of the kind, and none has more; of those that have as many it has fewest
+  -- families, and of several such it is the first
   pub record IsRoomiest (boards : List (RegistryView S)) (at room : ℕ) : Type 0 where
     pub board : RegistryView S
     pub there : slice_get boards at ≡ Some board
@@ -43,9 +43,10 @@ module _ {S : Type 0} (c h g : ℕ) (kind : Kind) where
     pub room : IsSomeAnd (slice_get boards part.board) HasRoom
     pub full : All (IsFullPart boards) (take place parts)
 
--- The board of a new family of this kind in this group: that of the group's families; or, where the group is new, the one with most free
--- slots of the kind, by `IsRoomiest`.
+-- The board of a new family of this kind in this group: that of the group's families; or, where the group is new, the one with
+-- most free slots of the kind, by `IsRoomiest`.
 abbrev pub IsHome : {S : Type 0} (c h g : ℕ) → PageView S → Kind → (group home : ℕ) → Type 0
 IsHome c h g page kind group home =
     Any (λ (family : PageFamily). (family.group ≡ group) × (family.home ≡ home)) page.families
-    ⊎ (All (λ (family : PageFamily). family.group ≢ group) page.families × (room : ℕ) × IsRoomiest c h g kind page.boards home room)
+    ⊎ (All (λ (family : PageFamily). family.group ≢ group) page.families × (room : ℕ) × IsRoomiest c h g kind page.boards home
+    room)

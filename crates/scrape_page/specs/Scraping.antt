@@ -19,8 +19,8 @@ module _ {X : Type 0} (made : X → X → Result Scraped NoScrape → Type 0) wh
   AreMade (a ∷ old) (b ∷ new) (part ∷ parts) = made a b (Ok part) × AreMade old new parts
   AreMade _ _ _ = ⊥
 
-  -- One made no scrape, for this reason. Those before it made one each, which they have kept and which nobody was given; those behind
-  -- it are as they were.
+  -- One made no scrape, for this reason. Those before it made one each, which they have kept and which nobody was given; those
+  -- behind it are as they were.
   pub record IsStoppedAt (old new : List X) (why : NoScrape) : Type 0 where
     pub front : List X
     pub front' : List X
@@ -51,8 +51,8 @@ module _ {S : Type 0} (n c h g : ℕ) (recorded : S → List Answer) (quit : S �
     pub scrapes : BoardScrapes before after result
     pub new_is : new ≡ record old { boards = slice_set old.boards number after }
 
-  -- each board made a scrape, these are merged (the families of the merge are those that it shows: the page's, as `shown` says), and so what
-  -- all boards hold is shown at their newest scrapes
+  -- each board made a scrape, these are merged (the families of the merge are those that it shows: the page's, as `shown` says),
+  -- and so what all boards hold is shown at their newest scrapes
   pub record ShowsPage (old new : PageView S) (whole : Scraped) : Type 0 where
     pub families : new.families ≡ old.families
     pub parts : List Scraped

@@ -15,8 +15,9 @@ module _ {S : Type 0} (c h : ℕ) where
   shown_on name at = of_name (λ (family : Family). map (child_shown c h at.1.totals family.desc.kind) family.children) name
       at.0.state.families
 
-  -- At the newest scrape that each board keeps: all vectors in a row, board by board; the families of the page, each once; and the children of
-  -- each are those of the families of its name on all boards, each once, with the totals of their slots at the board that they are on.
+  -- At the newest scrape that each board keeps: all vectors in a row, board by board; the families of the page, each once; and
+  -- the children of each are those of the families of its name on all boards, each once, with the totals of their slots at the
+  -- board that they are on.
   pub record IsPageShown (page : PageView S) (whole : Scraped) : Type 0 where
     pub answers : List Answer
     pub newest : map (λ (board : RegistryView S). board.state.last) page.boards ≡ map (λ (answer : Answer). Some answer) answers

@@ -24,7 +24,8 @@ impl<S: Source<N, C, H, G>, const N: usize, const C: usize, const H: usize, cons
     ghost use Rattle.scrape_page.specs.Calls.{IsGivenOnPage};
     ghost use Rattle.scrape_page.specs.Sought.{IsSought};
 
-    /// Why [`Page::register`] would refuse this family if there were no memory: 19, 23 or 6. For a caller that needs memory of its own first.
+    /// Why [`Page::register`] would refuse this family if there were no memory: 19, 23 or 6. For a caller that needs memory of
+    /// its own first.
     pub fn family_refusal(&self, desc: &Desc) -> PageFamilyFault
         ensures { IsPageFamilyFault self.now.families desc.now result }
     {
@@ -50,8 +51,8 @@ impl<S: Source<N, C, H, G>, const N: usize, const C: usize, const H: usize, cons
         }
     }
 
-    /// What [`Page::child`] would answer if there were no memory: the handle of the child of these values, if it is there. For a caller that
-    /// needs memory of its own first.
+    /// What [`Page::child`] would answer if there were no memory: the handle of the child of these values, if it is there. For a
+    /// caller that needs memory of its own first.
     ///
     /// # Errors
     ///

@@ -8,7 +8,8 @@ use scrape_http::NoScrape;
 use scrape_server::{FromState, MakesScrapes, scrape_again};
 use std::alloc::Global;
 
-/// A scrape of one board, which is asked again where the scan was given up, up to [`MakesScrapes::again`] times: a registry three times.
+/// A scrape of one board, which is asked again where the scan was given up, up to [`MakesScrapes::again`] times: a registry three
+/// times.
 ///
 /// # Errors
 ///

@@ -15,8 +15,8 @@ pub struct Part {
     pub family: FamilyId,
 }
 
-/// A family of a page, by its number alone: a family of another page is taken for the one of that number, and refused (20) only where
-/// there are not so many.
+/// A family of a page, by its number alone: a family of another page is taken for the one of that number, and refused (20) only
+/// where there are not so many.
 #[repr(C)]
 #[derive(Clone, Copy, Debug, PartialEq, Eq)]
 pub struct PageFamilyId {
@@ -39,8 +39,8 @@ impl PageFamilyId {
     }
 }
 
-/// A family of a page: its descriptor, which is shared, its group, the number of its group's board, its parts, and how many children it
-/// has on all boards.
+/// A family of a page: its descriptor, which is shared, its group, the number of its group's board, its parts, and how many
+/// children it has on all boards.
 ///
 /// Contracts see it as a `PageFamily`, the record of these.
 #[derive(Drop)]

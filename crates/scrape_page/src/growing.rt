@@ -48,7 +48,8 @@ impl<S: Source<N, C, H, G>, const N: usize, const C: usize, const H: usize, cons
 
     // The family of this number, whose parts are on full boards, takes a part on another.
     fn add_part(&mut self, number: usize, place: usize) -> Result<Part, NoMemory>
-        requires { IsSomeAnd (slice_get self.old.families number) (λ it. All (IsFullPart C H G it.desc.kind self.old.boards) it.parts
+        requires { IsSomeAnd (slice_get self.old.families number) (λ it. All (IsFullPart C H G it.desc.kind self.old.boards)
+            it.parts
             × IsSomeAnd (slice_get self.old.boards place) (HasRoom C H G it.desc.kind)) }
         ensures taken { IfOk result (AddsPart self.old self.new number) }
         ensures place { IfOk result (λ part. part.board ≡ place) }

@@ -17,8 +17,8 @@ use std::marker::Model;
 
 /// One to 96 registries without a lock, each over a board of its own, and the families that are spread over them.
 ///
-/// Contracts see it as a `PageView`: its boards and its families. Whenever nobody is at work in it, it is a page (`IsPage`): over all
-/// boards a name belongs to one descriptor, no two of which clash, and no label values are those of two children of a family.
+/// Contracts see it as a `PageView`: its boards and its families. Whenever nobody is at work in it, it is a page (`IsPage`): over
+/// all boards a name belongs to one descriptor, no two of which clash, and no label values are those of two children of a family.
 pub struct Page<
     S: Source<N, C, H, G>,
     const N: usize,
@@ -81,7 +81,8 @@ impl<S: Source<N, C, H, G>, const N: usize, const C: usize, const H: usize, cons
     H,
     G,
 > {
-    ghost use Rattle.std.specs.Prelude.{◌≡◌, ◌≢◌, ◌<◌, ◌++◌, ◌∷◌, [], length, slice_get, All, IfErr, IfOk, IfSome, IsSomeAnd, MatchOption};
+    ghost use Rattle.std.specs.Prelude.{◌≡◌, ◌≢◌, ◌<◌, ◌++◌, ◌∷◌, [], length, slice_get, All, IfErr, IfOk, IfSome};
+    ghost use Rattle.std.specs.Prelude.{IsSomeAnd, MatchOption};
     ghost use Rattle.std.specs.Prelude.{ℕ, OnErr, OnOk};
     ghost use Rattle.registry_state.specs.Calls.{IsInside};
     ghost use Rattle.scrape_page.specs.Kept.{IsPage};
@@ -128,8 +129,8 @@ impl<S: Source<N, C, H, G>, const N: usize, const C: usize, const H: usize, cons
     ///
     /// # Errors
     ///
-    /// 44 [`BoardFault::TooManyBoards`] where 96 are there; 45 [`BoardFault::NotFresh`] where a family is registered on it, or a board has
-    /// its id; 6 [`BoardFault::NoMemory`]. The board is handed back, and nothing has changed.
+    /// 44 [`BoardFault::TooManyBoards`] where 96 are there; 45 [`BoardFault::NotFresh`] where a family is registered on it, or a
+    /// board has its id; 6 [`BoardFault::NoMemory`]. The board is handed back, and nothing has changed.
     pub fn add_board(
         &mut self,
         board: RegistryState<S, N, C, H, G>,
@@ -164,14 +165,16 @@ impl<S: Source<N, C, H, G>, const N: usize, const C: usize, const H: usize, cons
         Ok(number)
     }
 
-    /// Registers a family of this descriptor, without children, in a group. It is on the board of its group: what is in one group is of one
-    /// moment as long as it is on that board. A new group is on the board with most free slots of the kind; of several such, on the one
-    /// with fewest families, of several the first. Families are numbered from 0, in the order of their registration.
+    /// Registers a family of this descriptor, without children, in a group. It is on the board of its group: what is in one group
+    /// is of one moment as long as it is on that board. A new group is on the board with most free slots of the kind; of several
+    /// such, on the one with fewest families, of several the first. Families are numbered from 0, in the order of their
+    /// registration.
     ///
     /// # Errors
     ///
-    /// 19 [`PageFamilyFault::Clash`] with the least family of the page whose lines share a name with its, whichever its group is; 23
-    /// [`PageFamilyFault::TooManyFamilies`] where 128 are there; 6 [`PageFamilyFault::NoMemory`]. Nothing has changed then, on any board.
+    /// 19 [`PageFamilyFault::Clash`] with the least family of the page whose lines share a name with its, whichever its group is;
+    /// 23 [`PageFamilyFault::TooManyFamilies`] where 128 are there; 6 [`PageFamilyFault::NoMemory`]. Nothing has changed then, on
+    /// any board.
     pub fn register(&mut self, desc: Desc, group: u64) -> Result<PageFamilyId, PageFamilyFault>
         ensures number { IfOk result (λ family. family.number ≡ length self.old.families) }
         ensures accepted { OnOk result (AreApart self.old.families desc × (length self.old.families < 128)) }
@@ -200,16 +203,16 @@ impl<S: Source<N, C, H, G>, const N: usize, const C: usize, const H: usize, cons
         }
     }
 
-    /// The handle of the child of these label values, whichever board it is on; a recorder of another board refuses it (16). Where there is none,
-    /// it is made: on the first board of the family's that has a free slot; or else the family takes a part on the board where a new
-    /// group would be.
+    /// The handle of the child of these label values, whichever board it is on; a recorder of another board refuses it (16).
+    /// Where there is none, it is made: on the first board of the family's that has a free slot; or else the family takes a part
+    /// on the board where a new group would be.
     ///
     /// # Errors
     ///
     /// 20 [`PageChildFault::NoSuchFamily`]; 21 [`PageChildFault::LabelCount`]; then, of a child that is not there, 46
-    /// [`PageChildFault::TooManyChildren`], 22 [`PageChildFault::Full`] where every slot of the kind is used on every board (then a further
-    /// board can be taken: [`Page::add_board`]), and 6 [`PageChildFault::NoMemory`]. Nothing has changed then, but that after 6 the family may have
-    /// taken a part on a further board, without children, which no text shows.
+    /// [`PageChildFault::TooManyChildren`], 22 [`PageChildFault::Full`] where every slot of the kind is used on every board (then
+    /// a further board can be taken: [`Page::add_board`]), and 6 [`PageChildFault::NoMemory`]. Nothing has changed then, but that
+    /// after 6 the family may have taken a part on a further board, without children, which no text shows.
     pub fn child(
         &mut self,
         family: PageFamilyId,

@@ -37,8 +37,8 @@ pub(crate) fn register_on<
     }
 }
 
-/// Registers a family of this descriptor on the board of this number, puts it behind the page's families, and its number at this place
-/// of their order, or does nothing.
+/// Registers a family of this descriptor on the board of this number, puts it behind the page's families, and its number at this
+/// place of their order, or does nothing.
 ///
 /// Refusal 6 [`NoMemory`], and no other.
 pub(crate) fn push_registered<

@@ -60,14 +60,14 @@ impl<S: Source<N, C, H, G>, const N: usize, const C: usize, const H: usize, cons
     ghost use Rattle.scrape_page.specs.Unshown.{Unshown};
     ghost use Rattle.scrape_page.specs.Windows.{page_with_window};
 
-    /// One scrape of all boards. Each board is asked for one, again up to three times where its scan was given up, and they are shown as one:
-    /// families by name, children by their values, whichever board they are on. What is on one board is of one moment; between boards none is
-    /// claimed. The memory of the merge is taken before the first scan.
+    /// One scrape of all boards. Each board is asked for one, again up to three times where its scan was given up, and they are
+    /// shown as one: families by name, children by their values, whichever board they are on. What is on one board is of one
+    /// moment; between boards none is claimed. The memory of the merge is taken before the first scan.
     ///
     /// # Errors
     ///
-    /// 14 [`NoScrape::Contended`] where a board's scan was given up four times; 6 [`NoScrape::NoMemory`]. The boards before it have kept their scrapes
-    /// then, and those behind it are as they were.
+    /// 14 [`NoScrape::Contended`] where a board's scan was given up four times; 6 [`NoScrape::NoMemory`]. The boards before it
+    /// have kept their scrapes then, and those behind it are as they were.
     pub fn scrape(&mut self) -> Result<Scrape, NoScrape>
         ensures { PageScrapes N C H G S.recorded S.quit S.gave S.gave_up self.old self.new result }
     {
@@ -86,8 +86,8 @@ impl<S: Source<N, C, H, G>, const N: usize, const C: usize, const H: usize, cons
         }
     }
 
-    /// One scrape of the board of this number alone, which is asked again up to three times where its scan was given up, and keeps the
-    /// scrape: the numbers of its children, all of one moment. The other boards are not asked.
+    /// One scrape of the board of this number alone, which is asked again up to three times where its scan was given up, and
+    /// keeps the scrape: the numbers of its children, all of one moment. The other boards are not asked.
     ///
     /// # Errors
     ///
@@ -101,8 +101,8 @@ impl<S: Source<N, C, H, G>, const N: usize, const C: usize, const H: usize, cons
         scrape_board(&mut self.boards[number])
     }
 
-    /// Keeps a scrape of the board of this number alone, as [`Page::scrape_board`] does, and gives nobody what it shows: its numbers are the
-    /// newest that the board keeps.
+    /// Keeps a scrape of the board of this number alone, as [`Page::scrape_board`] does, and gives nobody what it shows: its
+    /// numbers are the newest that the board keeps.
     ///
     /// # Errors
     ///
@@ -116,8 +116,8 @@ impl<S: Source<N, C, H, G>, const N: usize, const C: usize, const H: usize, cons
         keep_again(&mut self.boards[number])
     }
 
-    /// Keeps `window` scrapes of each board from now on. Where more were kept, the oldest ones are dropped. It takes no memory. A board that
-    /// comes later keeps as many as it did: [`Page::add_board`].
+    /// Keeps `window` scrapes of each board from now on. Where more were kept, the oldest ones are dropped. It takes no memory. A
+    /// board that comes later keeps as many as it did: [`Page::add_board`].
     ///
     /// # Errors
     ///
@@ -151,7 +151,8 @@ impl<
         Page::scrape(self)
     }
 
-    /// A page is not asked again: it has asked each board again by itself, and the boards before one that gives up have scanned by then.
+    /// A page is not asked again: it has asked each board again by itself, and the boards before one that gives up have scanned
+    /// by then.
     fn again(&self) -> usize {
         0
     }

@@ -4,8 +4,9 @@ ghost use Rattle.scrape_server.specs.Again.{AsksAgain};
 use expo_text::Scrape;
 use scrape_http::{NoScrape, ScrapeFrom};
 
-/// A scrape of a source, which is asked again where a scan was given up, as often as it says: up to [`ScrapeFrom::again`] times more. That a
-/// scan is given up is rare, since one that fails has the threads that publish rest: docs/HTTP.md has how rare ("Scrapes that are given up").
+/// A scrape of a source, which is asked again where a scan was given up, as often as it says: up to [`ScrapeFrom::again`] times
+/// more. That a scan is given up is rare, since one that fails has the threads that publish rest: docs/HTTP.md has how rare
+/// ("Scrapes that are given up").
 ///
 /// # Errors
 ///

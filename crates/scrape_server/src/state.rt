@@ -13,8 +13,8 @@ use snapshot_scan::Source;
 use std::io::{Read, Write};
 use watched::Watched;
 
-/// What makes scrapes by itself: a registry without a lock, of any source of snapshots. It names, for contracts alone, what one scrape does
-/// to it (`made`).
+/// What makes scrapes by itself: a registry without a lock, of any source of snapshots. It names, for contracts alone, what one
+/// scrape does to it (`made`).
 pub trait MakesScrapes {
     // How many times more it may be asked where a scan was given up.
     ghost again: { ℕ };
@@ -30,8 +30,8 @@ pub trait MakesScrapes {
     fn scrape(&mut self) -> Result<Scrape, NoScrape>
         ensures { made self.old self.new result };
 
-    /// How many times more, at most, whoever serves or prints its scrapes asks it where a scan was given up (14): the same number for all of a
-    /// type.
+    /// How many times more, at most, whoever serves or prints its scrapes asks it where a scan was given up (14): the same number
+    /// for all of a type.
     fn again(&self) -> usize
         ensures { result ≡ again };
 }

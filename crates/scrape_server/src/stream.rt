@@ -27,9 +27,9 @@ fn drain(mut stream: &TcpStream) {
     }
 }
 
-/// Tells the client that no more is sent, and reads on: at most 64 times, each of at most 4,096 bytes, and at most 300 milliseconds
-/// long. A socket that is closed while input waits that nobody has read resets the connection, and then the client may lose a reply
-/// that was sent whole: one to a head that was refused, or to a request with a body.
+/// Tells the client that no more is sent, and reads on: at most 64 times, each of at most 4,096 bytes, and at most 300
+/// milliseconds long. A socket that is closed while input waits that nobody has read resets the connection, and then the client
+/// may lose a reply that was sent whole: one to a head that was refused, or to a request with a body.
 ///
 /// Source: RFC 9112, section 9.6.
 ///
@@ -43,8 +43,8 @@ pub fn close_in_stages(stream: &TcpStream) -> io::Result<()> {
     Ok(())
 }
 
-/// Whether input waits that nobody has read; a byte of it is taken. It waits for nothing. Where there is none, reads of the socket wait for nothing from
-/// then on.
+/// Whether input waits that nobody has read; a byte of it is taken. It waits for nothing. Where there is none, reads of the
+/// socket wait for nothing from then on.
 ///
 /// # Errors
 ///
@@ -60,8 +60,8 @@ pub fn has_input(mut stream: &TcpStream) -> io::Result<bool> {
     }
 }
 
-/// Ends a connection behind a reply of this status. The request of a scrape was read whole: where nothing waits behind it, nothing is left
-/// to be done, and the socket may be closed. Else it ends in stages: [`close_in_stages`].
+/// Ends a connection behind a reply of this status. The request of a scrape was read whole: where nothing waits behind it,
+/// nothing is left to be done, and the socket may be closed. Else it ends in stages: [`close_in_stages`].
 ///
 /// Source: RFC 9112, section 9.6.
 ///
@@ -75,9 +75,9 @@ pub fn close_behind(stream: &TcpStream, status: Status) -> io::Result<()> {
     }
 }
 
-/// Serves one connection: reads a request, writes its reply by [`serve_one`], and ends the connection by
-/// [`close_behind`]. After a fault of a read or a write there is nobody to wait for. That the client is served is tested, and in no
-/// clause: what a socket gives and takes none can name.
+/// Serves one connection: reads a request, writes its reply by [`serve_one`], and ends the connection by [`close_behind`]. After
+/// a fault of a read or a write there is nobody to wait for. That the client is served is tested, and in no clause: what a socket
+/// gives and takes none can name.
 ///
 /// # Errors
 ///

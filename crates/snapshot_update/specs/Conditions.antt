@@ -23,15 +23,16 @@ pub record MayStore {N C H G : ℕ} (b : Board N C H G) (s : WorkSeat) (hidden :
   pub of_board : IsWorkSeatOf b s
   pub exact : (worker_of s).work.hidden ≡ hidden
 
--- after such stores it is the seat of the same worker, whose hidden buffer holds these words now; of its member nothing else has changed
+-- after such stores it is the seat of the same worker, whose hidden buffer holds these words now; of its member nothing else has
+-- changed
 pub record HasFilled {N C H G : ℕ} (b : Board N C H G) (hidden : List ℕ) (s s' : WorkSeat) : Type 0 where
   pub stores : MayStore b s' hidden
   pub index : index_of s' ≡ index_of s
   pub member : worker_of s' ≡ with_hidden hidden (worker_of s)
 
 -- the hidden buffer may be filled with the version: by the seat of a worker whose hidden buffer holds these words; `recent` lists
--- where it differs from the shown one, and where it `is_listed` (`know_next` said yes, and no list stands for all items) that the shown one differs from the version at no items but the
--- late and the touched ones, all three lists are whole
+-- where it differs from the shown one, and where it `is_listed` (`know_next` said yes, and no list stands for all items) that the
+-- shown one differs from the version at no items but the late and the touched ones, all three lists are whole
 pub record MayFill {N C H G : ℕ} (b : Board N C H G) (s : WorkSeat) (hidden shown : List ℕ) (recent late touched : ChangedView)
     (version : NextVersion C H G) (is_listed : Bool) : Type 0 where
   pub stores : MayStore b s hidden
@@ -59,8 +60,8 @@ pub record MayMakeVersion {N C H G : ℕ} (b : Board N C H G) (s : WorkSeat) (ro
       × ((j : ℕ) → j < depth N (width C H G) → ¬ (Contains im.touched.items j)
       → slice_index idle j ≡ slice_index (version_words row 1 (answer_of memory ended).vector (answer_of memory ended).totals) j))
 
--- the new row of the worker of this index may be remembered: where it `is_known`, it differs from the remembered one at the touched words
--- alone
+-- the new row of the worker of this index may be remembered: where it `is_known`, it differs from the remembered one at the
+-- touched words alone
 pub record MayLearn {N C H G : ℕ} (memory : ScanMemory N C H G) (index : ℕ) (row : List ℕ) (im : BufferImages)
     (is_known : Bool) : Type 0 where
   pub geometry : IsGeometry N C H G

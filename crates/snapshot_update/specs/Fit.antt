@@ -36,7 +36,8 @@ pub record AreImages (b : ℕ) (idle : List ℕ) (im : BufferImages) : Type 0 wh
   pub late : DifferAt im.late im.shown.items idle
   pub late_inside : AreInside b im.late
 
--- in a buffer of rows of w words on a board of n workers: this item is neither the worker's own number nor the total of a touched word
+-- in a buffer of rows of w words on a board of n workers: this item is neither the worker's own number nor the total of a touched
+-- word
 abbrev pub IsNoneOf : (n w index : ℕ) → (touched : List ℕ) → ℕ → Type 0
 IsNoneOf n w index touched j = (j ≢ w + 1 + index) × ((k : ℕ) → Contains touched k → j ≢ w + 1 + n + k)
 
@@ -70,8 +71,8 @@ pub record IsFit (n c h g index number : ℕ) (row : List ℕ) (memory : ScanMem
   pub joined : im.joined ≡ true → AreJoined im.recent im.late im.touched
 
 -- a worker's data, of this index, fit a member whose seat has the index `seat`: the indexes are one, the worker has published as
--- often as it counted, and the data fit by the member's own index and number. So a call whose step changes the member says what fits by
--- the member alone, and what the worker's fields say follows from the two equations
+-- often as it counted, and the data fit by the member's own index and number. So a call whose step changes the member says what
+-- fits by the member alone, and what the worker's fields say follows from the two equations
 abbrev pub IsFitOfSeat : (n c h g index number : ℕ) (row : List ℕ) (memory : ScanMemory n c h g) (im : BufferImages) (seat : ℕ)
     (m : Member) → Type 0
 IsFitOfSeat n c h g index number row memory im seat m =

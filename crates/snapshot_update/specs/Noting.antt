@@ -7,9 +7,9 @@ use Rattle.snapshot_scan.specs.ChangedItems.{ChangedView}
 use Rattle.std.specs.Int.{bit_at}
 use Rattle.snapshot_update.specs.declared.run.Run.{Run}
 
--- the words that rise are listed, of a row of w words: all stay all; else the old items are listed, and behind them at most n items
--- more (n is a bound of the list's growth, for `fits`: a list has room for 256), words of the row, with each word k at which `by k` is
--- not 0
+-- the words that rise are listed, of a row of w words: all stay all; else the old items are listed, and behind them at most n
+-- items more (n is a bound of the list's growth, for `fits`: a list has room for 256), words of the row, with each word k at
+-- which `by k` is not 0
 pub record Touches (n w : ℕ) (by : ℕ → ℕ) (old new : ChangedView) : Type 0 where
   pub listed : new.all ≡ false → old.all ≡ false
   pub keeps : new.all ≡ false → (j : ℕ) → Contains old.items j → Contains new.items j
@@ -18,8 +18,8 @@ pub record Touches (n w : ℕ) (by : ℕ → ℕ) (old new : ChangedView) : Type
   pub longer : length new.items ≤ length old.items + n
   pub fits : old.all ≡ false → length old.items + n ≤ 256 → new.all ≡ false
 
--- not all words may have changed: of a row of w words those are listed that these operations add to, and no items that are not words
--- of the row
+-- not all words may have changed: of a row of w words those are listed that these operations add to, and no items that are not
+-- words of the row
 pub record AreTouched (c h w : ℕ) (ops : List Op) (touched : ChangedView) : Type 0 where
   pub listed : touched.all ≡ false
   pub rises : (k : ℕ) → ¬ (Contains touched.items k) → sum_ops c h ops k ≡ 0

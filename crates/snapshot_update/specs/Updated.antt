@@ -28,18 +28,18 @@ ScanCameTo n w c c' false = (e : Contended) × IsContended n c c' e × CameTo n 
 abbrev pub IsRuledAlone : (n c h g : ℕ) → Member → Type 0
 IsRuledAlone n c h g m = AreRuled n (width c h g) (sum_ops c h) (Accepts c h g) (m ∷ [])
 
--- a worker's seat scanned: it is of the same worker, of which the rule said then all that it says of one member, and which has learned;
--- of its member nothing else has changed
+-- a worker's seat scanned: it is of the same worker, of which the rule said then all that it says of one member, and which has
+-- learned; of its member nothing else has changed
 pub record HasScanned {N C H G : ℕ} (b : Board N C H G) (s s' : WorkSeat) : Type 0 where
   pub of_board : IsWorkSeatOf b s'
   pub index : index_of s' ≡ index_of s
   pub ruled : IsRuledAlone N C H G (worker_of s')
   pub others : worker_of s' ≡ record (worker_of s) { scan = (worker_of s').scan }
 
--- from m to m' worker i scanned, and then published one version, which adds these operations and lends the answer of that
--- scan, or nothing where it was given up. After the scan the rule said of the worker all that it says of one member: the publishes of
--- all workers are of one history and legal, and what the worker loaded, remembers and recorded is right by them. What the fills stored in
--- the hidden buffer is not told here: the rule says what the buffer that is shown has
+-- from m to m' worker i scanned, and then published one version, which adds these operations and lends the answer of that scan,
+-- or nothing where it was given up. After the scan the rule said of the worker all that it says of one member: the publishes of
+-- all workers are of one history and legal, and what the worker loaded, remembers and recorded is right by them. What the fills
+-- stored in the hidden buffer is not told here: the rule says what the buffer that is shown has
 pub record IsUpdated (n c h g i : ℕ) (ops : List Op) (m m' : Member) : Type 0 where
   pub scan : ScanLog
   pub lends : Bool

@@ -4,8 +4,9 @@ ghost use Rattle.std.specs.Prelude.{◌≡◌, true, false, [], replicate, IfOk}
 use snapshot_scan::ChangedItems;
 use std::alloc::{AllocError, Global};
 
-/// What a worker knows of its buffers: the words of the hidden and of the shown one, where the two may differ from each other, and where
-/// the shown one may differ from what an update of nothing would publish now. The head of `update.rt` has a table of the lists.
+/// What a worker knows of its buffers: the words of the hidden and of the shown one, where the two may differ from each other,
+/// and where the shown one may differ from what an update of nothing would publish now. The head of `update.rt` has a table of
+/// the lists.
 #[derive(Drop)]
 pub(crate) struct BufferImages {
     /// The words of the buffer that is not shown.

@@ -15,8 +15,8 @@ use register_rule::{Board, BoardFault, Parts, ReadSeat, WorkSeat};
 use snapshot_scan::Reader;
 use std::alloc::{AllocError, Global};
 
-/// A new board with all who work on it: who takes it apart has the board, to be shared, and workers and readers, each to move to a thread
-/// of its own.
+/// A new board with all who work on it: who takes it apart has the board, to be shared, and workers and readers, each to move to
+/// a thread of its own.
 #[derive(Drop)]
 pub struct Crew<const N: usize, const C: usize, const H: usize, const G: usize> {
     /// What workers and readers share.
@@ -118,13 +118,13 @@ fn to_readers<const N: usize, const C: usize, const H: usize, const G: usize>(
 }
 
 impl<const N: usize, const C: usize, const H: usize, const G: usize> Crew<N, C, H, G> {
-    /// A new board of this id, on which nothing was counted, with its `N` workers and `readers` readers. All memory that counting and
-    /// scanning need is taken here.
+    /// A new board of this id, on which nothing was counted, with its `N` workers and `readers` readers. All memory that counting
+    /// and scanning need is taken here.
     ///
     /// # Errors
     ///
-    /// 13 [`BoardFault::Geometry`], unless `N` is 1 to 32, `C` at most 256, `H` at most 32, `G` at most 64 and `readers` 1 to 4; then 6
-    /// [`BoardFault::NoMemory`].
+    /// 13 [`BoardFault::Geometry`], unless `N` is 1 to 32, `C` at most 256, `H` at most 32, `G` at most 64 and `readers` 1 to 4;
+    /// then 6 [`BoardFault::NoMemory`].
     pub fn new(alloc: Global, id: u64, readers: usize) -> Result<Crew<N, C, H, G>, BoardFault>
         ensures board { IfOk result (λ c. (board_id c.board ≡ id) × IsBoardSize N C H G readers) }
         ensures of_board { IfOk result (λ c. All (IsWorkerOf c.board) c.workers.items

@@ -1,8 +1,8 @@
 //! Filling the hidden buffer with a version: only the words that change are stored.
 //!
-//! There are three ways: `fill_again`, where the update repeats the one before it; and else (`fill_next`, in `next_fill.rt`) `fill_known`,
-//! where three lists hold all that may differ, or `fill_all`, which compares the whole buffer in ranges (`fill_range`). Each word goes
-//! through `fill_item`, which stores it where it changes.
+//! There are three ways: `fill_again`, where the update repeats the one before it; and else (`fill_next`, in `next_fill.rt`)
+//! `fill_known`, where three lists hold all that may differ, or `fill_all`, which compares the whole buffer in ranges
+//! (`fill_range`). Each word goes through `fill_item`, which stores it where it changes.
 ghost use Rattle.std.specs.Prelude.{◌≡◌, ◌+◌, ◌<◌, ◌≤◌, ℕ, false, length, slice_index, slice_set, Contains};
 ghost use Rattle.bucket_math.specs.Words.{greatest_word};
 ghost use Rattle.ledger_core.specs.Ops.{width};
@@ -18,8 +18,8 @@ use register_rule::{Board, WorkSeat};
 use segment_layout::{Item, item_at};
 use snapshot_scan::ChangedItems;
 
-/// Makes an item of the hidden buffer this word. `hidden` is what the buffer holds, and a word that it holds is not stored. The buffer
-/// begins at `start` (`Board::hidden_start`).
+/// Makes an item of the hidden buffer this word. `hidden` is what the buffer holds, and a word that it holds is not stored. The
+/// buffer begins at `start` (`Board::hidden_start`).
 #[inline(always)]
 pub(crate) fn fill_item<const N: usize, const C: usize, const H: usize, const G: usize>(
     board: &Board<N, C, H, G>,
@@ -68,8 +68,9 @@ fn fill_changes<const N: usize, const C: usize, const H: usize, const G: usize>(
     }
 }
 
-/// Fills the hidden buffer with the version, where it differs from it at no items but those of three lists: those at which the two
-/// buffers differ, those at which the shown one differs from what an update of nothing would publish, and those that this update touches.
+/// Fills the hidden buffer with the version, where it differs from it at no items but those of three lists: those at which the
+/// two buffers differ, those at which the shown one differs from what an update of nothing would publish, and those that this
+/// update touches.
 #[inline(always)]
 pub(crate) fn fill_known<const N: usize, const C: usize, const H: usize, const G: usize>(
     board: &Board<N, C, H, G>,
@@ -155,8 +156,8 @@ fn fill_touched<const N: usize, const C: usize, const H: usize, const G: usize>(
     }
 }
 
-/// Fills the hidden buffer with the version, where it differs from it at no items but the worker's own number, these words of the row,
-/// and their totals.
+/// Fills the hidden buffer with the version, where it differs from it at no items but the worker's own number, these words of the
+/// row, and their totals.
 #[inline(always)]
 pub(crate) fn fill_again<const N: usize, const C: usize, const H: usize, const G: usize>(
     board: &Board<N, C, H, G>,
@@ -239,8 +240,8 @@ pub(crate) fn fill_all<const N: usize, const C: usize, const H: usize, const G: 
 {
     recent.clear();
     let row = version.row.len();
-    // The parts of a version one by one: the compiler then sees in each range which kind of word `version.word` takes, and among the
-    // counters, which are the most, drops the question. One call for all asks it for each word.
+    // The parts of a version one by one: the compiler then sees in each range which kind of word `version.word` takes, and among
+    // the counters, which are the most, drops the question. One call for all asks it for each word.
     fill_range(board, seat, hidden, shown, recent, &version, 0, C);
     fill_range(board, seat, hidden, shown, recent, &version, C, row);
     let end = hidden.len();

@@ -36,8 +36,10 @@ impl JobOp {
         requires of_board { IsWorkerOf board.now worker.old }
         ensures of_board { IsWorkerOf board.now worker.new }
         ensures index { index_of worker.new ≡ index_of worker.old }
-        ensures counted { OnOk result (IsCounted (board_id board.now) (registry_of self.now) (op_of self.now) worker.old worker.new) }
-        ensures fault { IfErr result (IsCountFault C H G (board_id board.now) (registry_of self.now) (op_of self.now) (member_of worker.old)) }
+        ensures counted { OnOk result (IsCounted (board_id board.now) (registry_of self.now) (op_of self.now) worker.old
+            worker.new) }
+        ensures fault { IfErr result (IsCountFault C H G (board_id board.now) (registry_of self.now) (op_of self.now) (member_of
+            worker.old)) }
         ensures unchanged { OnErr result (worker.new ≡ worker.old) }
     {
         match self {

@@ -5,8 +5,8 @@ ghost use Rattle.snapshot_update.specs.Known.{NotesRange};
 
 use snapshot_scan::ChangedItems;
 
-/// Notes each item that is listed in `from`, so much further along the buffer. That all of `from` may have changed is not noted: its callers
-/// see to that.
+/// Notes each item that is listed in `from`, so much further along the buffer. That all of `from` may have changed is not noted:
+/// its callers see to that.
 #[inline]
 pub(crate) fn note_each(to: &mut ChangedItems, from: &ChangedItems, shift: usize)
     requires room { (j : ℕ) → Contains from.now.items j → j + shift < 18446744073709551616 }

@@ -17,7 +17,8 @@ ghost use Rattle.snapshot_update.specs.Updated.{ScanCameTo, HasScanned};
 use register_rule::{Board, WorkSeat};
 use snapshot_scan::{Contended, ScanEnd, ScanMemory, Snapshot};
 
-/// The scan of a worker for its update, as its clauses say it of the worker: its other parts stay as they were. It asks nobody to rest.
+/// The scan of a worker for its update, as its clauses say it of the worker: its other parts stay as they were. It asks nobody to
+/// rest.
 #[inline(always)]
 pub(crate) fn scan_for_update<const N: usize, const C: usize, const H: usize, const G: usize>(
     board: &Board<N, C, H, G>,
@@ -42,8 +43,8 @@ pub(crate) fn scan_for_update<const N: usize, const C: usize, const H: usize, co
     memory.scan(board, seat, false)
 }
 
-/// The scan of a worker whose answer goes to its caller, with what the rule says of the worker alone: what the worker wrote stays as it
-/// was.
+/// The scan of a worker whose answer goes to its caller, with what the rule says of the worker alone: what the worker wrote stays
+/// as it was.
 pub(crate) fn scan_for_caller<const N: usize, const C: usize, const H: usize, const G: usize>(
     board: &Board<N, C, H, G>,
     seat: &mut WorkSeat,

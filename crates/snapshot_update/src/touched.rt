@@ -22,8 +22,8 @@ pub(crate) const SUM: usize = 25;
 pub(crate) const COUNT: usize = 26;
 
 /// Lists the words of a row that these operations add to, and no items that are not words of the row. The words of a histogram
-/// that is observed many times one after the other are listed once. A list has room for 256 items, and an operation touches three words
-/// at most: so 85 operations always fit.
+/// that is observed many times one after the other are listed once. A list has room for 256 items, and an operation touches three
+/// words at most: so 85 operations always fit.
 #[inline(always)]
 fn touch_all<const C: usize, const H: usize, const G: usize>(ops: &[Op], touched: &mut ChangedItems)
     requires within { All (IsWithin C H G) ops.now }
@@ -39,8 +39,8 @@ fn touch_all<const C: usize, const H: usize, const G: usize>(ops: &[Op], touched
     }
 }
 
-/// As [`touch_all`]. Where it says yes, the list is as it was, and the operations add to the words that it has. `spare` is room for a list, of
-/// which nothing is known. `only` is the operation of a list of one.
+/// As [`touch_all`]. Where it says yes, the list is as it was, and the operations add to the words that it has. `spare` is room
+/// for a list, of which nothing is known. `only` is the operation of a list of one.
 #[inline(always)]
 pub(crate) fn touch<const C: usize, const H: usize, const G: usize>(
     ops: &[Op],
@@ -67,8 +67,8 @@ pub(crate) fn touch<const C: usize, const H: usize, const G: usize>(
     false
 }
 
-/// As [`touch`], of a list of none, or of two or more. Where they are not seen at once to add to the listed words they are listed in `spare`, and
-/// where that list is another, the two change places.
+/// As [`touch`], of a list of none, or of two or more. Where they are not seen at once to add to the listed words they are listed
+/// in `spare`, and where that list is another, the two change places.
 #[inline(never)]
 fn touch_list<const C: usize, const H: usize, const G: usize>(
     ops: &[Op],

@@ -109,8 +109,8 @@ impl<const N: usize, const C: usize, const H: usize, const G: usize> Worker<N, C
         })
     }
 
-    /// Publishes one version, which adds this list: all of it or nothing. An empty list is a version as well. It takes no
-    /// memory and waits for nobody: its steps are bounded whatever others do. Where a scan's first try failed it may rest first, as
+    /// Publishes one version, which adds this list: all of it or nothing. An empty list is a version as well. It takes no memory
+    /// and waits for nobody: its steps are bounded whatever others do. Where a scan's first try failed it may rest first, as
     /// [`Board::rest_if_hushed`] tells.
     ///
     /// # Errors
@@ -364,8 +364,8 @@ impl<const N: usize, const C: usize, const H: usize, const G: usize> Worker<N, C
         reader.admit(board, seat.into_bundle());
     }
 
-    /// Takes the worker back from the reader that it is lent to, by two loads: the first one changes nothing, and is made for what the rule
-    /// tells at it of the members, which the worker needs to go on: that it has seen its own number.
+    /// Takes the worker back from the reader that it is lent to, by two loads: the first one changes nothing, and is made for
+    /// what the rule tells at it of the members, which the worker needs to go on: that it has seen its own number.
     pub fn take_back(&mut self, board: &Board<N, C, H, G>, reader: &mut Reader<N, C, H, G>)
         requires of_board { IsReaderOf board.now reader.old }
         requires lent { IsLent self.old reader.old }
@@ -402,8 +402,8 @@ impl<const N: usize, const C: usize, const H: usize, const G: usize> Worker<N, C
         self.take_back(board, reader);
     }
 
-    // One operation by a handle that has the id of this registry; 16 where that is not the board's. `inc` and `observe` do the same each for
-    // itself, so that the compiler makes of each an update of its own operation alone.
+    // One operation by a handle that has the id of this registry; 16 where that is not the board's. `inc` and `observe` do the
+    // same each for itself, so that the compiler makes of each an update of its own operation alone.
     fn count(&mut self, board: &Board<N, C, H, G>, registry: u64, op: Op) -> Result<(), CountFault>
         requires of_board { IsWorkerOf board.now self.old }
         ensures of_board { IsWorkerOf board.now self.new }

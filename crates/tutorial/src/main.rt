@@ -1,5 +1,6 @@
-//! A tutorial in six steps, each of which is a file: [`counter`], [`labels`], [`threads`], [`testing`], [`routes`] and [`endpoint`]. The
-//! program runs them in order. The endpoint answers as many connections as the program is told: `tutorial 1` one, `tutorial` none.
+//! A tutorial in six steps, each of which is a file: [`counter`], [`labels`], [`threads`], [`testing`], [`routes`] and
+//! [`endpoint`]. The program runs them in order. The endpoint answers as many connections as the program is told: `tutorial 1`
+//! one, `tutorial` none.
 #![tactic(auto)]
 
 mod counter;

@@ -28,7 +28,8 @@ struct Route {
     seconds: Histogram,
 }
 
-/// The counters of a route, one for each code. What only registers is generic in where: so it is proved sooner, and serves a board as well.
+/// The counters of a route, one for each code. What only registers is generic in where: so it is proved sooner, and serves a
+/// board as well.
 fn counters_of(
     metrics: &mut Registrar<impl Registers>,
     alloc: Global,

@@ -1,4 +1,5 @@
-//! A test of a service's metrics: it calls what counts, scans, and compares what the scan has found, and in the end the exact totals.
+//! A test of a service's metrics: it calls what counts, scans, and compares what the scan has found, and in the end the exact
+//! totals.
 use anyhow::{Context, Result, ensure};
 use dirgwako::{
     Counter, Crew, Histogram, Recorder, Registrar, Registry, Scanner, ServiceRuntime, Snapshot,

@@ -123,7 +123,8 @@ module _ {N C H G : ℕ} (always : Bool) (b : Board N C H G) (lists : List (List
   no_thread k f one two = cc
 
   -- where there was room, no want of memory is told
-  pub not_memory : (many : ℕ) (r : Result (Vec (Worker N C H G) Global) PoolFault) → length lists ≡ length ws → length hs ≤ length ws
+  pub not_memory : (many : ℕ) (r : Result (Vec (Worker N C H G) Global) PoolFault) → length lists ≡ length ws → length hs ≤ length
+      ws
       → IfErr r (λ f. TellsOf many f) → IfErr r (λ f. f ≢ NoMemory)
   not_memory many (Ok v) long few tells = tt
   not_memory many (Err f) long few tells = λ is. let ends = tells.0 in let least = tells.2 in ⊎_elim

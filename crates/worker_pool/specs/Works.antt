@@ -23,8 +23,8 @@ module _ {N C H G : ℕ} where
     pub lists : lists_of v ≡ lists_of w ++ map list_of_job jobs
     pub handles : All (λ job. registry_of job.what ≡ board_id b) jobs
 
-  -- from w to v the worker did the first k jobs, and then refused the next one, which is of this line, for a reason of this number: it
-  -- has published nothing else
+  -- from w to v the worker did the first k jobs, and then refused the next one, which is of this line, for a reason of this
+  -- number: it has published nothing else
   pub record WasRefused (b : Board N C H G) (jobs : List Job) (line number : ℕ) (w v : Worker N C H G) : Type 0 where
     pub k : ℕ
     pub job : Job
@@ -41,9 +41,10 @@ module _ {N C H G : ℕ} where
     pub more : k < length jobs
     pub did : Did b (take k jobs) w v
 
-  -- by this fault the work of the worker at this place stopped, from w to v: it was refused a job, or was shut out, by a gate that is
-  -- not always open
-  abbrev pub HasStopped : (always_open : Bool) → Board N C H G → (place : ℕ) → List Job → (w v : Worker N C H G) → PoolFault → Type 0
+  -- by this fault the work of the worker at this place stopped, from w to v: it was refused a job, or was shut out, by a gate
+  -- that is not always open
+  abbrev pub HasStopped : (always_open : Bool) → Board N C H G → (place : ℕ) → List Job → (w v : Worker N C H G) → PoolFault →
+      Type 0
   HasStopped always_open b place jobs w v (Refused line number) = WasRefused b jobs line number w v
   HasStopped always_open b place jobs w v (GateShut worker) = (worker ≡ place) × (always_open ≡ false) × WasShutOut b jobs w v
   HasStopped always_open b place jobs w v (NoThread worker) = ⊥

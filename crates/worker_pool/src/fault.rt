@@ -4,8 +4,8 @@ ghost use Rattle.worker_pool.specs.Faults.{pool_fault_number, ComesBefore};
 
 use thiserror::Error;
 
-/// Why a pool hands no workers back. Of several faults the first of this list is told, of several of one kind the one of the least
-/// line or worker, and of two refusals of one line that of the lesser worker.
+/// Why a pool hands no workers back. Of several faults the first of this list is told, of several of one kind the one of the
+/// least line or worker, and of two refusals of one line that of the lesser worker.
 #[derive(Clone, Copy, Debug, PartialEq, Eq, Error)]
 pub enum PoolFault {
     /// Refusals 16, 15, 11 and 12: a worker refused the job of this line, and by which number. It did those before it in its

@@ -5,8 +5,8 @@ ghost use Rattle.worker_pool.specs.Jobs.{jobs_at, lists_in};
 
 use crate::job::Job;
 
-/// A list of jobs for each worker of a pool, by the worker's place, from 0. It gives one job at a time, so it may keep less than a
-/// [`Job`] of each, and make the job when a worker asks for it. The workers' threads ask it at the same time.
+/// A list of jobs for each worker of a pool, by the worker's place, from 0. It gives one job at a time, so it may keep less than
+/// a [`Job`] of each, and make the job when a worker asks for it. The workers' threads ask it at the same time.
 pub trait JobLists {
     // The lists, as clauses name them.
     ghost lists: { Self → List (List Job) };

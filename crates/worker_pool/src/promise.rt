@@ -8,7 +8,8 @@ use snapshot_update::Worker;
 use std::snapshot::Snapshot;
 use std::thread::Promise;
 
-/// That its result is how the work of this worker, at this place, on its list of these ended, behind a gate that is always open or may shut.
+/// That its result is how the work of this worker, at this place, on its list of these ended, behind a gate that is always open
+/// or may shut.
 #[derive(Drop)]
 pub(crate) struct Does<'a, Q, const N: usize, const C: usize, const H: usize, const G: usize> {
     pub(crate) board: &'a Board<N, C, H, G>,

@@ -27,10 +27,10 @@ use std::thread::Threads;
 ///
 /// # Errors
 ///
-/// The first that is there in this order, of one kind the one of the least line or worker, and of two refusals of one line that of
-/// the lesser worker: the number of a worker's refusal (16, 15, 11, 12), [`PoolFault::Refused`]; 29 [`PoolFault::GateShut`]; 30
-/// [`PoolFault::NoThread`]. 6 [`PoolFault::NoMemory`] comes before the first thread (tested), so that no job was done then. The workers are
-/// gone.
+/// The first that is there in this order, of one kind the one of the least line or worker, and of two refusals of one line that
+/// of the lesser worker: the number of a worker's refusal (16, 15, 11, 12), [`PoolFault::Refused`]; 29 [`PoolFault::GateShut`];
+/// 30 [`PoolFault::NoThread`]. 6 [`PoolFault::NoMemory`] comes before the first thread (tested), so that no job was done then.
+/// The workers are gone.
 pub fn run_pool<
     R: Threads + Wait,
     P: Gate + Sync,

@@ -131,7 +131,8 @@ fn finish<
     outcome(ends, workers, done)
 }
 
-/// Starts a thread for each worker, joins them all, and gives the workers back. There is room for all, so it does not want memory.
+/// Starts a thread for each worker, joins them all, and gives the workers back. There is room for all, so it does not want
+/// memory.
 fn run_with_room<
     's,
     E: 's,

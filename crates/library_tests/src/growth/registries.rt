@@ -210,8 +210,8 @@ const AT_LAST: Moment = Moment {
     gauge: GaugeTotals { up: 0, down: 2 },
 };
 
-/// What is seen in the end, whatever was refused before: both families with their children, so many kept scrapes of three, the first two of
-/// these, and four changes beside.
+/// What is seen in the end, whatever was refused before: both families with their children, so many kept scrapes of three, the
+/// first two of these, and four changes beside.
 fn seen(kept: usize, scrapes: [Option<Moment>; 2]) -> Seen {
     Seen {
         families: [Some(0), Some(1)],

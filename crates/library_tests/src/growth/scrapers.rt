@@ -1,5 +1,5 @@
-//! Scrapers of a page: what takes memory. Each call that is refused is made again, and then they show what the owner shows; but of a family that took a
-//! part before its child was refused, and of what came later, they are told nothing.
+//! Scrapers of a page: what takes memory. Each call that is refused is made again, and then they show what the owner shows; but
+//! of a family that took a part before its child was refused, and of what came later, they are told nothing.
 use crate::asserts::{again, same, there};
 use dirgwako::{CounterFamily, NoScrape, OnPage, PageCrew, PageScraper, Registrar, render};
 use std::process::Abort;

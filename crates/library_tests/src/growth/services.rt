@@ -1,5 +1,5 @@
-//! The library for services: its calls that take memory. Each that is refused has changed nothing, and answers the same call again as it would have
-//! answered the first one.
+//! The library for services: its calls that take memory. Each that is refused has changed nothing, and answers the same call
+//! again as it would have answered the first one.
 use crate::asserts::{again, same};
 use crate::crew::ID;
 use crate::services::why_shut;

@@ -81,7 +81,8 @@ fn a_window_behind_a_lock(rt: HostRuntime) {
     same(rt, kept(rt, &crew), (1, 1));
 }
 
-/// A name that is taken (19), a gauge where boards have none (22), and the 257th child of a family (46), which is on the last of 86 boards.
+/// A name that is taken (19), a gauge where boards have none (22), and the 257th child of a family (46), which is on the last of
+/// 86 boards.
 #[test]
 fn refused_behind_a_lock(rt: HostRuntime) {
     let (rt, alloc) = (&rt, rt.alloc());

@@ -106,8 +106,9 @@ fn with_memory<'a>(
     Scanning { scanner, out }
 }
 
-/// One thread publishes without rest, and two others scan without rest: at most a hundredth of the scans of each is given up, since a scan
-/// that failed once has the thread rest, and the end of one scan does not end the hush of another. Without that it is a fifth to nearly all.
+/// One thread publishes without rest, and two others scan without rest: at most a hundredth of the scans of each is given up,
+/// since a scan that failed once has the thread rest, and the end of one scan does not end the hush of another. Without that it
+/// is a fifth to nearly all.
 #[test]
 fn scans_beside_a_thread_that_publishes(rt: HostRuntime) {
     let rt = &rt;

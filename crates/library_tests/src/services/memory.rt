@@ -1,5 +1,5 @@
-//! Calls that take no memory: those of a recorder, of a page's recorder and of a scanner. A test makes each of them once, another one a thousand times, and
-//! `checks/no_memory.py` sees that both ask for memory equally often.
+//! Calls that take no memory: those of a recorder, of a page's recorder and of a scanner. A test makes each of them once, another
+//! one a thousand times, and `checks/no_memory.py` sees that both ask for memory equally often.
 use super::{Counts, Team};
 use crate::asserts::{need, there};
 use crate::crew::ID;

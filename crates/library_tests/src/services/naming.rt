@@ -1,5 +1,5 @@
-//! What is registered, of whatever registers it. A call of the library by a type of its own takes some nine seconds to be proved, at each place:
-//! these are generic, and calls of them take none.
+//! What is registered, of whatever registers it. A call of the library by a type of its own takes some nine seconds to be proved,
+//! at each place: these are generic, and calls of them take none.
 use crate::asserts::need;
 use dirgwako::{
     ChildRefusal, Counter, CounterFamily, Gauge, MetricRefusal, Refused, Registers, Registrar,

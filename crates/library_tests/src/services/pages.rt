@@ -12,8 +12,9 @@ type OneEach = PageCrew<1, 1, 0, 0>;
 /// The id of the first board of the page of id 7.
 const FIRST: u64 = 7 * 128;
 
-/// A list by handles of two boards is no version (47), nor one by those of no board of the page (16), and a list of nothing is none; exact totals are
-/// those of each board, and of no board there are none. A board that is scraped alone shows its own families.
+/// A list by handles of two boards is no version (47), nor one by those of no board of the page (16), and a list of nothing is
+/// none; exact totals are those of each board, and of no board there are none. A board that is scraped alone shows its own
+/// families.
 #[test]
 fn lists_and_totals(rt: HostRuntime) {
     let (rt, alloc) = (&rt, rt.alloc());

@@ -28,7 +28,8 @@ const FULL: ChildRefusal = ChildRefusal::Child(PageChildFault::Full {
     slots: 4,
 });
 
-/// A value too few of a family of two labels, and one child more than there are slots. A child that is asked for again is the same one.
+/// A value too few of a family of two labels, and one child more than there are slots. A child that is asked for again is the
+/// same one.
 fn refuses_children<S: Registers>(rt: &impl Abort, metrics: &mut Registrar<S>) {
     let family = &counters(rt, metrics, "c", &["a", "b"]);
     let (want, got) = (2, 1);
@@ -76,7 +77,8 @@ h_sum 10
 h_count 1
 "#;
 
-/// Children and metrics are refused, and a scrape shows those that are not: behind four counters, of which one is used, and two gauges.
+/// Children and metrics are refused, and a scrape shows those that are not: behind four counters, of which one is used, and two
+/// gauges.
 pub(super) fn shows_children(
     rt: &(impl Wait + Abort + AllocGlobal),
     registry: &Names<'_>,

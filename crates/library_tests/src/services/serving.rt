@@ -110,7 +110,8 @@ const BESIDE: [Step; 4] = [
     Step::Ask(b"GET / HTTP/1.0\r\n\r\n"),
 ];
 
-/// Of two threads one waits for a client that says nothing, and the other one answers all others meanwhile. At the end a flag is raised.
+/// Of two threads one waits for a client that says nothing, and the other one answers all others meanwhile. At the end a flag is
+/// raised.
 fn serves_beside<T>(rt: &T, alloc: Global, registry: &Names<'_>)
 where
     T: Abort + Clock + Threads + Wait + Sync + Net<Listener = TcpListener, Stream = TcpStream>,
@@ -135,8 +136,8 @@ where
     same(rt, need(rt, answered), Answered { replies, faults });
 }
 
-/// No patience at all is refused before a connection is accepted, of which there is none, and so are no threads and 33. Of 32 each sees that it is to
-/// stop.
+/// No patience at all is refused before a connection is accepted, of which there is none, and so are no threads and 33. Of 32
+/// each sees that it is to stop.
 fn has_no_patience<T>(rt: &T, registry: &Names<'_>)
 where
     T: Abort + Clock + Threads + Wait + Sync + Net<Listener = TcpListener, Stream = TcpStream>,
@@ -161,8 +162,8 @@ where
     same(rt, need(rt, end), Answered { replies, faults });
 }
 
-/// The server asks a listener again that does not wait, and after 64 failures in a row, some six seconds, it ends. A client that says nothing is let
-/// go when the play ends: its thread is not waited for.
+/// The server asks a listener again that does not wait, and after 64 failures in a row, some six seconds, it ends. A client that
+/// says nothing is let go when the play ends: its thread is not waited for.
 #[test]
 fn whoever_comes(rt: HostRuntime) {
     let rt = &rt;

@@ -11,8 +11,8 @@ use std::sync::Wait;
 use std::thread::sleep;
 use std::time::Duration;
 
-/// A gauge is set to values in turn, and then within a list: a scrape shows the last one. It is refused a value that is too far away (12), which
-/// leaves it, and another board's gauge is refused (16).
+/// A gauge is set to values in turn, and then within a list: a scrape shows the last one. It is refused a value that is too far
+/// away (12), which leaves it, and another board's gauge is refused (16).
 pub(super) fn sets(
     rt: &(impl Wait + Abort + AllocGlobal),
     registry: &Names<'_>,

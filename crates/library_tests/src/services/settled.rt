@@ -5,7 +5,8 @@ use crate::crew::ID;
 use dirgwako::{NotAll, Snapshot, settle};
 use std::process::Abort;
 
-/// Of these recorders alone there are no exact totals, since that of this worker does not stand at its place. What there was is as it was.
+/// Of these recorders alone there are no exact totals, since that of this worker does not stand at its place. What there was is
+/// as it was.
 fn lacks(rt: &(impl Abort + AllocGlobal), recorders: Option<&[Counts<'_>]>, missing: usize) {
     let mut out = need(rt, Snapshot::new(rt.alloc()));
     let fault = NotAll { missing };

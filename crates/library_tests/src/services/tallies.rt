@@ -16,8 +16,8 @@ const NOTHING: &str = "# TYPE a counter\na 0\n# TYPE b gauge\nb 0\n# TYPE g gaug
 /// What it prints behind three increments and a fall.
 const THREE: &str = "# TYPE a counter\na 3\n# TYPE b gauge\nb -2\n# TYPE g gauge\ng 12\n";
 
-/// A recorder publishes what a tally has in one version, and a scrape shows it from then on. A tally of another registry is not published (16), nor what
-/// would be too large (12); it has then what it had.
+/// A recorder publishes what a tally has in one version, and a scrape shows it from then on. A tally of another registry is not
+/// published (16), nor what would be too large (12); it has then what it had.
 pub(super) fn publishes(
     rt: &(impl Wait + Abort + AllocGlobal),
     registry: &Names<'_>,

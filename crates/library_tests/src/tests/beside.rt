@@ -132,8 +132,9 @@ const CONFIRMS: Plan = Plan {
 /// A plan, what the scan answers, the vector and the total of the output, and how often a rest was asked for.
 type Case = (Plan, Result<(), Contended>, [u64; 2], u64, u64);
 
-/// The first try is direct, or the second one, or the third one, and a rest was asked for once for each that failed. The worker lends: the numbers
-/// read are 0, 1 in the first try, 2, 3 in the second, and then 4, where it is asked. The scan is given up, and the output stays as it was.
+/// The first try is direct, or the second one, or the third one, and a rest was asked for once for each that failed. The worker
+/// lends: the numbers read are 0, 1 in the first try, 2, 3 in the second, and then 4, where it is asked. The scan is given up,
+/// and the output stays as it was.
 static CASES: [Case; 5] = [
     (CONFIRMS, Ok(()), [0, 0], 0, 0),
     (

@@ -35,8 +35,8 @@ const UNCOUNTED: HistTotals = HistTotals {
 /// The number of a child.
 const ONE: Number = Number::Counter(1);
 
-/// Families out of order, or whose lines take one name; children out of order, or with a value for no label; numbers of another kind, or a
-/// histogram's whose count is not the sum of its buckets.
+/// Families out of order, or whose lines take one name; children out of order, or with a value for no label; numbers of another
+/// kind, or a histogram's whose count is not the sum of its buckets.
 static REFUSED: [&[Family]; 6] = [
     &[B, COUNTER],
     &[HISTOGRAM, H_COUNT],

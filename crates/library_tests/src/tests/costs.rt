@@ -56,8 +56,8 @@ fn least_on_new<const N: usize, const C: usize, const H: usize, const G: usize>(
     need(rt, least(rt, &it.board, &mut worker)).as_nanos()
 }
 
-/// It compares and fills what changed, whatever else the row has: here a buffer of 4 words, and one of 2,498. To compare all of these
-/// takes some thirty times as long.
+/// It compares and fills what changed, whatever else the row has: here a buffer of 4 words, and one of 2,498. To compare all of
+/// these takes some thirty times as long.
 #[test]
 fn an_update_costs_no_more_on_a_large_board(rt: HostRuntime) {
     let rt = &rt;

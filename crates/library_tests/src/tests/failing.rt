@@ -103,7 +103,8 @@ fn serves(
     same(rt, writer.into_inner().taken.as_slice(), reply);
 }
 
-/// The same of a request that comes so many bytes a read, of which the `reads`th, from 0, fails. The writer takes one byte a write.
+/// The same of a request that comes so many bytes a read, of which the `reads`th, from 0, fails. The writer takes one byte a
+/// write.
 fn asks(
     rt: &(impl Abort + AllocGlobal),
     bytes: &[u8],

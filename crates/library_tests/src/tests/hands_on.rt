@@ -198,8 +198,8 @@ fn all_kept(
     }
 }
 
-/// Threads use a registry, of which nothing is left but what stood behind its lock: all that was given. The last scrape is the first
-/// thread's, and shows all families with all that was counted.
+/// Threads use a registry, of which nothing is left but what stood behind its lock: all that was given. The last scrape is the
+/// first thread's, and shows all families with all that was counted.
 fn hands_on(
     rt: &(impl Abort + Threads + Wait + Sync),
     alloc: Global,

@@ -89,8 +89,8 @@ fn timed(
     start.elapsed(rt)
 }
 
-/// The least time of an increment that finds a new request, and of the one behind it that finds the same, in five turns. The hush lasts all
-/// the while.
+/// The least time of an increment that finds a new request, and of the one behind it that finds the same, in five turns. The hush
+/// lasts all the while.
 fn least_times(
     rt: &(impl Clock + Abort),
     board: &Board<1, 1, 0, 0>,
@@ -108,8 +108,8 @@ fn least_times(
     (rested, next)
 }
 
-/// A scan asks, and never ends: each update is made, but rests first, once for each request. A rest is 100,000 loads long, and an update of one
-/// worker makes some ten loads and stores.
+/// A scan asks, and never ends: each update is made, but rests first, once for each request. A rest is 100,000 loads long, and an
+/// update of one worker makes some ten loads and stores.
 #[test]
 fn a_worker_rests_once_for_a_request(rt: HostRuntime) {
     let rt = &rt;

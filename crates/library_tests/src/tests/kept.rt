@@ -40,7 +40,8 @@ fn new_state<'a>(
     }
 }
 
-/// Behind a lock a family is registered and two scrapes are made. Settled, the journal has these three entries, and keeps both scrapes.
+/// Behind a lock a family is registered and two scrapes are made. Settled, the journal has these three entries, and keeps both
+/// scrapes.
 fn settles<B: Named>(
     rt: &(impl Wait + Abort),
     alloc: Global,

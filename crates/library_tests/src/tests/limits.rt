@@ -1,4 +1,5 @@
-//! The greatest scrape: 128 families of 256 children. And a family whose names, texts and bounds are as long and as many as they may be.
+//! The greatest scrape: 128 families of 256 children. And a family whose names, texts and bounds are as long and as many as they
+//! may be.
 use crate::asserts::{need, same, there};
 use crate::made::{COUNTER, Family, add_child, family_of, scrape};
 use expo_text::{ChildScrape, FamilyScrape, Number, Scrape, render, text_len};
@@ -97,8 +98,9 @@ static GREATEST_BOUNDS: [u64; 24] = [
     281_474_976_710_655,
 ];
 
-/// A histogram of 24 bounds, with a name of 128 bytes, a help of 1,024 bytes and 8 values of 256 bytes, of which each byte is escaped, and 2^43 values
-/// in each bucket. The help and the type stand in 2,331 bytes. Each of the 27 lines after them has the names and the values of 8 labels, in 5,151 bytes.
+/// A histogram of 24 bounds, with a name of 128 bytes, a help of 1,024 bytes and 8 values of 256 bytes, of which each byte is
+/// escaped, and 2^43 values in each bucket. The help and the type stand in 2,331 bytes. Each of the 27 lines after them has the
+/// names and the values of 8 labels, in 5,151 bytes.
 #[test]
 fn longest_family(rt: HostRuntime) {
     let rt = &rt;

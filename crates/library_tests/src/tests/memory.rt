@@ -1,5 +1,5 @@
-//! Calls that take no memory: those of workers, readers and tallies. A test makes each of them once, another one a thousand times, and
-//! `checks/no_memory.py` sees that both ask for memory equally often.
+//! Calls that take no memory: those of workers, readers and tallies. A test makes each of them once, another one a thousand
+//! times, and `checks/no_memory.py` sees that both ask for memory equally often.
 ghost use Rattle.snapshot_scan.specs.Order.{IsAlone};
 ghost use Rattle.snapshot_scan.specs.Readers.{IsReaderOf};
 ghost use Rattle.snapshot_update.specs.Workers.{IsWorkerOf};

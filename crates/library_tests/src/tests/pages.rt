@@ -26,7 +26,8 @@ fn small(rt: &impl Abort, alloc: Global, id: u64, is_used: bool) -> Small {
     made
 }
 
-/// What comes of a further board, in the words of a test: its number, or why it is refused, and the id of the board that comes back.
+/// What comes of a further board, in the words of a test: its number, or why it is refused, and the id of the board that comes
+/// back.
 fn asked(
     page: &mut Page<SmallSource, 1, 1, 0, 0>,
     board: Small,

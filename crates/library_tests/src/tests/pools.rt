@@ -82,7 +82,8 @@ fn a_gate_shuts_behind_a_job(rt: HostRuntime) {
     same(rt, it.out.counter(0), 5);
 }
 
-/// Both workers are refused a job, since there is no such counter, by the lines 9 and 5: each did the one before it, and none after it.
+/// Both workers are refused a job, since there is no such counter, by the lines 9 and 5: each did the one before it, and none
+/// after it.
 #[test]
 fn the_least_line_is_told(rt: HostRuntime) {
     let rt = &rt;

@@ -22,8 +22,8 @@ fn prints(rt: &(impl Wait + Abort), registry: &Two<'_>, times: usize, expected: 
     }
 }
 
-/// Makes 70 scrapes, of which 64 are kept, then other windows, and a scrape in each. The window is the one that was asked for, and a
-/// smaller one drops the oldest scrapes: four are kept in the end.
+/// Makes 70 scrapes, of which 64 are kept, then other windows, and a scrape in each. The window is the one that was asked for,
+/// and a smaller one drops the oldest scrapes: four are kept in the end.
 fn windows(rt: &(impl Wait + Abort), registry: &Two<'_>) {
     prints(rt, registry, 70, "");
     same(rt, registry.set_window(rt, 64), Ok(64));
@@ -69,8 +69,8 @@ fn count_by_turns(rt: &impl Abort, board: &TwoBoard, workers: &mut Vec<TwoWorker
 const COUNTED: &str = "# TYPE c counter\nc 7\n# TYPE g gauge\ng -2\n# TYPE h histogram\n\
      h_bucket{le=\"10\"} 0\nh_bucket{le=\"20\"} 1\nh_bucket{le=\"+Inf\"} 1\nh_sum 11\nh_count 1\n";
 
-/// The answers are those of the registry behind the lock, of a further family `d` by a path, which has no slot, and of refusals. The
-/// family `c` is found again with its child.
+/// The answers are those of the registry behind the lock, of a further family `d` by a path, which has no slot, and of refusals.
+/// The family `c` is found again with its child.
 fn refuses(rt: &(impl Wait + Abort), alloc: Global, registry: &Two<'_>) {
     let clash = registry.register(rt, done(rt, desc(alloc, Kind::Counter, "h_sum", &[])));
     same(rt, clash, Err(RegisterFault::Clash { with: 1 }));

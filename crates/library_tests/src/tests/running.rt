@@ -140,7 +140,8 @@ fn told_by(out: &Snapshot<4, 1, 1, 0>) -> Counted {
     (counter, third, fourth, sum, third.wrapping_add(fourth))
 }
 
-/// What a reader was given is something, each of its scans is accounted for, all are of one moment each, and one history passes through them.
+/// What a reader was given is something, each of its scans is accounted for, all are of one moment each, and one history passes
+/// through them.
 fn are_accounted(rt: &impl Abort, alloc: Global, taken: &[Snapshot<4, 1, 1, 0>], given_up: usize) {
     same(rt, taken.is_empty(), false);
     same(rt, taken.len().wrapping_add(given_up), 1_000);

@@ -91,9 +91,9 @@ type Run<'a> = (
 /// A publish in the first try of a reader, which is direct in its second one.
 const SECOND_TRY: &str = "bssBSSSSSssssss";
 
-/// A direct scan in the second try; one that is lent to, where an only worker publishes between the two numbers of each try, and its own scans find
-/// what it published before; one that is not, since the asked worker's read is torn; one where nobody is asked; one that gives up; and reads that are
-/// torn in each place of a try.
+/// A direct scan in the second try; one that is lent to, where an only worker publishes between the two numbers of each try, and
+/// its own scans find what it published before; one that is not, since the asked worker's read is torn; one where nobody is
+/// asked; one that gives up; and reads that are torn in each place of a try.
 static RUNS: [Run; 9] = [
     (
         2,

@@ -44,7 +44,8 @@ fn one_worker() -> ScanState
     state
 }
 
-/// An asked worker lends. A vector below the floor is not lent: the scan tries once more, and gives up where nothing is lent then.
+/// An asked worker lends. A vector below the floor is not lent: the scan tries once more, and gives up where nothing is lent
+/// then.
 #[test]
 fn lent_and_given_up(rt: HostRuntime) {
     let rt = &rt;

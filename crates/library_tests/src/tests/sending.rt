@@ -48,8 +48,8 @@ const BOTH: &[u8] = b"abc# TYPE a counter\na 0\n";
 /// How many bytes a writer takes a call, how many calls it takes, what it is answered, and how many bytes it has then.
 type Case = (usize, usize, Result<(), WriteFailed>, usize);
 
-/// A front and a text go in one call, where the writer takes them, or byte by byte. Writers that fail within the front and within the text, or that
-/// take none, have all before that.
+/// A front and a text go in one call, where the writer takes them, or byte by byte. Writers that fail within the front and within
+/// the text, or that take none, have all before that.
 static ENDS: [Case; 8] = [
     (100, 1, Ok(()), 24),
     (1, 24, Ok(()), 24),

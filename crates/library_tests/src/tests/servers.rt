@@ -53,8 +53,8 @@ impl Write for Fails {
     }
 }
 
-/// After so many calls of its writer a server ends, and what was written is a front of what is printed. Three writes and a flush are for the
-/// port, and as many for the replies.
+/// After so many calls of its writer a server ends, and what was written is a front of what is printed. Three writes and a flush
+/// are for the port, and as many for the replies.
 #[test]
 fn a_writer_that_fails(rt: HostRuntime) {
     let (rt, alloc) = (&rt, rt.alloc());

@@ -49,8 +49,8 @@ fn tell_all(rt: &impl Abort, tally: &mut Five, steps: &[Step]) {
     }
 }
 
-/// What fills it, what joins, and what is refused then: what would be one more, handles of another registry, slots outside the row, and sums over
-/// 2^48 - 1, of a histogram's values too.
+/// What fills it, what joins, and what is refused then: what would be one more, handles of another registry, slots outside the
+/// row, and sums over 2^48 - 1, of a histogram's values too.
 static TOLD: [Step; 17] = [
     (ID, Inc(1, 2), Ok(())),
     (ID, Inc(0, 3), Ok(())),

@@ -25,4 +25,5 @@ fault_within made inner again before after NoMemory is = ⊎_elim
 
 pub returns-in-Err-clause-fault : goal.returns-in-Err-clause-fault
 returns-in-Err-clause-fault g c =
-    fault_within g.X.MakesScrapes.made (λ s. s.state) g.X.MakesScrapes.again _ c.text_from-made.new.source c.in-Err.fault c.in-Err.ensures.fault
+    fault_within g.X.MakesScrapes.made (λ s. s.state) g.X.MakesScrapes.again _ c.text_from-made.new.source c.in-Err.fault
+    c.in-Err.ensures.fault

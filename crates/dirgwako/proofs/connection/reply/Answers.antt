@@ -9,7 +9,8 @@ returns-in-Ok-clause-answers g c =
 
 pub returns-in-Err-clause-answers : goal.returns-in-Err-clause-answers
 returns-in-Err-clause-answers g c =
-    not_served (λ (p : AskedAgain g.row.S.Denot). p.source) g.S.ScrapeFrom.gave g.S.ScrapeFrom.again _ _ _ _ _ _ _ _ _ _ c.in-Err.ensures.read_failed
+    not_served (λ (p : AskedAgain g.row.S.Denot). p.source) g.S.ScrapeFrom.gave g.S.ScrapeFrom.again _ _ _ _ _ _ _ _ _ _
+    c.in-Err.ensures.read_failed
     c.in-Err.ensures.served c.in-Err.ensures.unserved
 
 pub returns-in-Err-clause-fault : goal.returns-in-Err-clause-fault

@@ -19,6 +19,7 @@ shows_too gave again shows before after (Err fault) is given = tt
 
 pub returns : goal.returns
 returns g c = record {
-  shows = shows_too (λ a b answer. (b ≡ a) × IfOk answer g.X.Shared.shows) g.X.Shared.again g.X.Shared.shows _ _ c.text_from.result
+  shows = shows_too (λ a b answer. (b ≡ a) × IfOk answer g.X.Shared.shows) g.X.Shared.again g.X.Shared.shows _ _
+      c.text_from.result
       c.text_from.ensures.text (λ a b scrape given. given.1);
 }

@@ -8,7 +8,8 @@ returns-clause-replied g c = if_ok_from c.answer_all-answered.result
     (λ answered are. met_there (λ l. l.source.source.state)
     (λ a b r. Answers (λ x y z. g.X.MakesScrapes.made x.state y.state z) g.X.MakesScrapes.again a.source.source b.source.source r)
     (Answers g.X.MakesScrapes.made g.X.MakesScrapes.again)
-    (λ a b r is. answers_there (λ o. o.state) g.X.MakesScrapes.made g.X.MakesScrapes.again a.source.source b.source.source r is) c.args.connections
+    (λ a b r is. answers_there (λ o. o.state) g.X.MakesScrapes.made g.X.MakesScrapes.again a.source.source b.source.source r is)
+    c.args.connections
     answered.replies _ _ are)
     c.answer_all-answered.ensures.replied
 

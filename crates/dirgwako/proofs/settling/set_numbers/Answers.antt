@@ -27,7 +27,11 @@ loop-place-preserved g c =
           ∙ (set_here vector place c.number.result (omega (arith, lt, few, all))
           ∙ ap some (c.number.ensures ∙ ap (λ y. length (member_of (worker_in y)).work.made)
           (some-injective r x (sym here ∙ (ap (get_elem? rs) (sym e) ∙ at))))))
-          (λ other. set_else vector place i c.number.result other ∙ c.loop-place.invariant.numbers i x (omega (arith, small, other)) at);
+          (λ other. set_else vector place i c.number.result other ∙ c.loop-place.invariant.numbers i x (omega (
+            arith,
+            small,
+            other,
+          )) at);
     }
 
 pub returns : goal.returns

@@ -22,7 +22,8 @@ pub returns-in-Ok-ask : goal.returns-in-Ok-ask
 returns-in-Ok-ask g c =
     family_made c.args.registrar.now.at c.ask.new.registrar.at c.args.family.now c.in-Ok-ask.made c.args.group
     (λ (f : Family). f.id) (λ (f : Family). f.registry) c.args.name.now c.args.help.now (texts_of c.args.labels.now)
-    (said c.args.asked c.args.digits) c.in-Some-Some.name.now c.in-Some-Some.help.now (texts_of c.deref.result.now) c.in-Some-Some.ensures
+    (said c.args.asked c.args.digits) c.in-Some-Some.name.now c.in-Some-Some.help.now (texts_of c.deref.result.now)
+    c.in-Some-Some.ensures
     c.in-Some-Some.ensures' (ap texts_of c.deref.ensures.value ∙ c.in-Ok.ensures.texts) c.in-Ok.ensures.all
     c.in-Ok-ask.ensures.registry c.in-Ok-ask.ensures.made
 
@@ -31,6 +32,7 @@ returns g c =
     let number : c.from.result ≡ family_refusal_number c.in-Err-ask.refused.fault = search rules in
     family_refused c.args.registrar.now.at c.ask.new.registrar.at c.args.family.now c.args.family.now c.args.group
     (λ (f : Family). f.id) (λ (f : Family). f.registry) c.args.name.now c.args.help.now (texts_of c.args.labels.now)
-    (said c.args.asked c.args.digits) c.in-Some-Some.name.now c.in-Some-Some.help.now (texts_of c.deref.result.now) c.in-Err-ask.refused.fault
+    (said c.args.asked c.args.digits) c.in-Some-Some.name.now c.in-Some-Some.help.now (texts_of c.deref.result.now)
+    c.in-Err-ask.refused.fault
     c.from.result number c.in-Some-Some.ensures c.in-Some-Some.ensures'
     (ap texts_of c.deref.ensures.value ∙ c.in-Ok.ensures.texts) c.in-Ok.ensures.all c.in-Err-ask.ensures.fault

@@ -9,16 +9,20 @@ use Rattle.dirgwako_c.proofs.families.histogram_of_in.Goals as goal
 
 pub returns-in-Ok-histogram_of : goal.returns-in-Ok-histogram_of
 returns-in-Ok-histogram_of g c =
-    child_given (λ (x : Histogram). Handles.Histogram x) c.args.registrar.now.at c.histogram_of.new.self.at c.args.histogram.now c.in-Ok-histogram_of.given
+    child_given (λ (x : Histogram). Handles.Histogram x) c.args.registrar.now.at c.histogram_of.new.self.at c.args.histogram.now
+    c.in-Ok-histogram_of.given
     c.args.family.now.registry c.args.family.now.id (texts_of c.args.values.now) Kinds.Histogram (texts_of c.deref.result.now)
-    (ap texts_of c.deref.ensures.value ∙ c.in-Ok.ensures.texts) c.in-Ok.ensures.all c.of-family.result.registry c.of-family.result.id
+    (ap texts_of c.deref.ensures.value ∙ c.in-Ok.ensures.texts) c.in-Ok.ensures.all c.of-family.result.registry
+    c.of-family.result.id
     c.of-family.ensures.registry c.of-family.ensures.id c.in-Ok-histogram_of.ensures.given
 
 pub returns : goal.returns
 returns g c =
     let number : c.from.result ≡ child_refusal_number c.in-Err-histogram_of.refused.fault = search rules in
-    child_refused (λ (x : Histogram). Handles.Histogram x) c.args.registrar.now.at c.histogram_of.new.self.at c.args.histogram.now c.args.histogram.now
+    child_refused (λ (x : Histogram). Handles.Histogram x) c.args.registrar.now.at c.histogram_of.new.self.at c.args.histogram.now
+    c.args.histogram.now
     c.args.family.now.registry c.args.family.now.id (texts_of c.args.values.now) Kinds.Histogram (texts_of c.deref.result.now)
-    (ap texts_of c.deref.ensures.value ∙ c.in-Ok.ensures.texts) c.in-Ok.ensures.all c.of-family.result.registry c.of-family.result.id
+    (ap texts_of c.deref.ensures.value ∙ c.in-Ok.ensures.texts) c.in-Ok.ensures.all c.of-family.result.registry
+    c.of-family.result.id
     c.of-family.ensures.registry c.of-family.ensures.id c.in-Err-histogram_of.refused.fault c.from.result number
     c.in-Err-histogram_of.ensures.fault

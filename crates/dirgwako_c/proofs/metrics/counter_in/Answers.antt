@@ -14,7 +14,9 @@ returns-in-Ok g c =
 
 pub returns-in-Err : goal.returns-in-Err
 returns-in-Err g c =
-    metric_refused (λ (x : Counter). Handles.Counter x) c.args.registrar.now.at c.counter.new.self.at c.args.counter.now c.args.counter.now
+    metric_refused (λ (x : Counter). Handles.Counter x) c.args.registrar.now.at c.counter.new.self.at c.args.counter.now
+    c.args.counter.now
     c.args.name.now c.args.help.now (λ (n h : List ℕ). family_of Kinds.Counter n h [] []) c.in-Some-Some.name.now
-    c.in-Some-Some.help.now c.in-Err.refused.fault c.answer_of.result c.answer_of.ensures c.in-Some-Some.ensures c.in-Some-Some.ensures'
+    c.in-Some-Some.help.now c.in-Err.refused.fault c.answer_of.result c.answer_of.ensures c.in-Some-Some.ensures
+    c.in-Some-Some.ensures'
     c.in-Err.ensures.fault

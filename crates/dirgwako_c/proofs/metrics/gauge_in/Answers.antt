@@ -16,5 +16,6 @@ pub returns-in-Err : goal.returns-in-Err
 returns-in-Err g c =
     metric_refused (λ (x : Gauge). Handles.Gauge x) c.args.registrar.now.at c.gauge.new.self.at c.args.gauge.now c.args.gauge.now
     c.args.name.now c.args.help.now (λ (n h : List ℕ). family_of Kinds.Gauge n h [] []) c.in-Some-Some.name.now
-    c.in-Some-Some.help.now c.in-Err.refused.fault c.answer_of.result c.answer_of.ensures c.in-Some-Some.ensures c.in-Some-Some.ensures'
+    c.in-Some-Some.help.now c.in-Err.refused.fault c.answer_of.result c.answer_of.ensures c.in-Some-Some.ensures
+    c.in-Some-Some.ensures'
     c.in-Err.ensures.fault

@@ -8,13 +8,16 @@ use Rattle.dirgwako_c.proofs.metrics.histogram_in.Goals as goal
 
 pub returns-in-Ok : goal.returns-in-Ok
 returns-in-Ok g c =
-    metric_made (λ (x : Histogram). Handles.Histogram x) c.args.registrar.now.at c.histogram.new.self.at c.args.histogram.now c.in-Ok.made
+    metric_made (λ (x : Histogram). Handles.Histogram x) c.args.registrar.now.at c.histogram.new.self.at c.args.histogram.now
+    c.in-Ok.made
     c.args.name.now c.args.help.now (λ (n h : List ℕ). family_of Kinds.Histogram n h [] c.args.bounds.now) c.in-Some-Some.name.now
     c.in-Some-Some.help.now c.in-Some-Some.ensures c.in-Some-Some.ensures' c.in-Ok.ensures.made
 
 pub returns-in-Err : goal.returns-in-Err
 returns-in-Err g c =
-    metric_refused (λ (x : Histogram). Handles.Histogram x) c.args.registrar.now.at c.histogram.new.self.at c.args.histogram.now c.args.histogram.now
+    metric_refused (λ (x : Histogram). Handles.Histogram x) c.args.registrar.now.at c.histogram.new.self.at c.args.histogram.now
+    c.args.histogram.now
     c.args.name.now c.args.help.now (λ (n h : List ℕ). family_of Kinds.Histogram n h [] c.args.bounds.now) c.in-Some-Some.name.now
-    c.in-Some-Some.help.now c.in-Err.refused.fault c.answer_of.result c.answer_of.ensures c.in-Some-Some.ensures c.in-Some-Some.ensures'
+    c.in-Some-Some.help.now c.in-Err.refused.fault c.answer_of.result c.answer_of.ensures c.in-Some-Some.ensures
+    c.in-Some-Some.ensures'
     c.in-Err.ensures.fault

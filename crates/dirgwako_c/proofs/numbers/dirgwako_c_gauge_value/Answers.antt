@@ -12,8 +12,10 @@ place slot = 1 + WORKERS + COUNTERS + 27 * HISTOGRAMS + 2 * slot
 up_at : (numbers : List ℕ) (slot : ℕ) → slice_index (totals_in numbers) (place_of_gauge slot) ≡ get_or numbers (place slot) 0
 up_at numbers slot = get_or-drop (1 + WORKERS) numbers (place_of_gauge slot) 0 ∙ ap (λ (k : ℕ). get_or numbers k 0) (omega arith)
 
-down_at : (numbers : List ℕ) (slot : ℕ) → slice_index (totals_in numbers) (place_of_gauge slot + 1) ≡ get_or numbers (place slot + 1) 0
-down_at numbers slot = get_or-drop (1 + WORKERS) numbers (place_of_gauge slot + 1) 0 ∙ ap (λ (k : ℕ). get_or numbers k 0) (omega arith)
+down_at : (numbers : List ℕ) (slot : ℕ) → slice_index (totals_in numbers) (place_of_gauge slot + 1) ≡ get_or numbers (place slot +
+    1) 0
+down_at numbers slot = get_or-drop (1 + WORKERS) numbers (place_of_gauge slot + 1) 0 ∙ ap (λ (k : ℕ). get_or numbers k 0) (omega
+    arith)
 
 pub returns-then-up-ge-LIMIT : goal.returns-then-up-ge-LIMIT
 returns-then-up-ge-LIMIT c =

@@ -24,7 +24,8 @@ returns c =
       refl,
       (c.if-numbers-ne-NUMBERS.false, c.if-numbers-histogram.false, c.if-histogram-ge-HISTOGRAMS.false),
       c.copy_from_slice.ensures.after ∙ (ap (λ (n : ℕ). take n (drop (first slot) numbers)) many
-          ∙ ap (take 25) (ap (λ (n : ℕ). drop n numbers) (sym there) ∙ sym (drop_both (place_of_histogram slot) (1 + WORKERS) numbers))),
+          ∙ ap (take 25) (ap (λ (n : ℕ). drop n numbers) (sym there) ∙ sym (drop_both (place_of_histogram slot) (1 + WORKERS)
+          numbers))),
       word_at numbers slot 25,
       word_at numbers slot 26,
     )

@@ -18,9 +18,11 @@ returns-in-Ok g c =
     let did : AsksAlone (owner_in before) c.keep_board.new.self number (Ok scrape) =
     (c.in-Ok.ensures.scraped.0, c.in-Ok.ensures.scraped.1.1, c.in-Ok.ensures.scraped.2) in
     let there = board_there before done number scrape did c.boards-in-Ok.result.now board
-    (c.boards-in-Ok.ensures.boards ∙ ap (λ (p : PageView (OneScanner g.row.N g.row.C g.row.H g.row.G)). p.boards) c.page-in-Ok.ensures)
+    (c.boards-in-Ok.ensures.boards ∙ ap (λ (p : PageView (OneScanner g.row.N g.row.C g.row.H g.row.G)). p.boards)
+    c.page-in-Ok.ensures)
     c.index-boards-number.is in
-    read_made before done number c.hand_over_numbers.result had c.hand_over_numbers.new.buffer had_len c.hand_over_numbers.new.len (refl, refl)
+    read_made before done number c.hand_over_numbers.result had c.hand_over_numbers.new.buffer had_len c.hand_over_numbers.new.len
+    (refl, refl)
     c.in-Ok.ensures.untold scrape did board (as_answer c.newest.new.out) there c.newest.ensures
     (subst (λ (n : ℕ). IsHandedOver (numbers_of n (as_answer c.newest.new.out)) c.hand_over_numbers.result had
     c.hand_over_numbers.new.buffer c.hand_over_numbers.new.len) c.id.ensures c.hand_over_numbers.ensures)

@@ -1,4 +1,5 @@
-use Rattle.std.proofs.Common.{◌≡◌, ℕ, zero, suc, ◌+◌, ◌<◌, List, Bool, true, false, length, get_or, replicate, refl, ap, ◌∙◌, lit<, arith}
+use Rattle.std.proofs.Common.{◌≡◌, ℕ, zero, suc, ◌+◌, ◌<◌, List, Bool, true, false, length, get_or, replicate, refl, ap, ◌∙◌}
+use Rattle.std.proofs.Common.{lit<, arith}
 use Rattle.std.proofs.lemmas.List.{length-replicate}
 use mathlib.Core.Logic.{dite}
 use native.Mathlib.Decide.{ℕ_discrete}
@@ -14,7 +15,8 @@ all_false (suc n) zero h = refl
 all_false (suc n) (suc i) h = all_false n i (omega (arith, h))
 
 -- the mark of a place
-mark_at : (marks : List Bool) (n i : ℕ) (b : Bool) → length marks ≡ n → i < n → get_or marks i false ≡ b → get_elem? marks i ≡ some b
+mark_at : (marks : List Bool) (n i : ℕ) (b : Bool) → length marks ≡ n → i < n → get_or marks i false ≡ b → get_elem? marks i ≡
+    some b
 mark_at marks n i b all lt is = there marks i false (omega (arith, lt, all)) ∙ ap some is
 
 -- one more is made
@@ -41,7 +43,8 @@ returns-then-not-marks-worker-clause-apart g c =
 
 pub loop-worker-preserved : goal.loop-worker-preserved
 loop-worker-preserved g c =
-    marked_more c.mark.new.marks g.row.N c.loop-worker.worker (c.mark.auto.marks ∙ length-replicate g.row.N false) c.loop-worker-test.true
+    marked_more c.mark.new.marks g.row.N c.loop-worker.worker (c.mark.auto.marks ∙ length-replicate g.row.N false)
+    c.loop-worker-test.true
     c.if-not-marks-worker.false c.loop-worker.invariant
 
 pub returns-clause-all : goal.returns-clause-all

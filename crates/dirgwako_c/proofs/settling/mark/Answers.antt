@@ -26,11 +26,14 @@ loop-place-preserved g c =
     let ws = workers_of (seats_on c.args.board (recorders_in c.args.spare.now)) in let place : ℕ = c.loop-place.place in
     let marks = c.loop-place.marks in let worker = its c.seat.result.now in let at : ℕ = c.index-worker.result in
     let inv = c.loop-place.invariant in
-    let here : get_elem? ws place ≡ some worker = worker_here (seats_on c.args.board (recorders_in c.args.spare.now)) place c.seat.result.now c.seat.ensures in
+    let here : get_elem? ws place ≡ some worker = worker_here (seats_on c.args.board (recorders_in c.args.spare.now)) place
+    c.seat.result.now c.seat.ensures in
     let is : index_of worker ≡ at = sym c.index-worker.ensures.index in
     let inside = c.index-worker.ensures.inside in
-    let free : get_elem? marks at ≡ some false = there marks at false (omega (arith, inside, inv.all)) ∙ ap some c.if-marks-worker.false in
-    let one = λ (w : OneWorker g.row.N g.row.C g.row.H g.row.G) (e : get_elem? ws place ≡ some w). some-injective worker w (sym here ∙ e) in
+    let free : get_elem? marks at ≡ some false = there marks at false (omega (arith, inside, inv.all)) ∙ ap some
+    c.if-marks-worker.false in
+    let one = λ (w : OneWorker g.row.N g.row.C g.row.H g.row.G) (e : get_elem? ws place ≡ some w). some-injective worker w (sym
+    here ∙ e) in
     record {
       all = length-set marks at true ∙ inv.all;
       marked = λ i lt e. ⊎_elim (λ h. (place, worker, omega arith, here, is ∙ sym h.0))
@@ -51,7 +54,8 @@ returns-then-marks-worker g c =
     let ws = workers_of (seats_on c.args.board (recorders_in c.args.spare.now)) in let place : ℕ = c.loop-place.place in
     let marks = c.loop-place.marks in let worker = its c.seat.result.now in let at : ℕ = c.index-worker.result in
     let inv = c.loop-place.invariant in let inside = c.index-worker.ensures.inside in
-    let taken : get_elem? marks at ≡ some true = there marks at false (omega (arith, inside, inv.all)) ∙ ap some c.if-marks-worker.true in
+    let taken : get_elem? marks at ≡ some true = there marks at false (omega (arith, inside, inv.all)) ∙ ap some
+    c.if-marks-worker.true in
     let (p, w, below, its, same) = inv.marked at inside taken in
     record {
       marks = λ yes. absurd (true≢false (sym yes));
@@ -72,12 +76,20 @@ pub returns : goal.returns
 returns g c =
     let rs = seats_on c.args.board (recorders_in c.args.spare.now) in
     let inv = c.loop-place.invariant in let end = c.loop-place-test.false in
-    let many = seats_many c.args.board (recorders_in c.args.spare.now) c.requires.known in let count = c.len-place-end.ensures.count in
+    let many = seats_many c.args.board (recorders_in c.args.spare.now) c.requires.known in let count =
+    c.len-place-end.ensures.count in
     record {
       marks = λ _ i lt. (
         (λ e. let (p, w, below, at, same) = inv.marked i lt e in (p, w, at, same)),
-        λ e has. inv.unmarked i lt e has.0 has.1 (let low = worker_below rs has.0 has.1 has.2 in omega (arith, low, end, count, many)) has.2 has.3,
+        λ e has. inv.unmarked i lt e has.0 has.1 (let low = worker_below rs has.0 has.1 has.2 in omega (
+          arith,
+          low,
+          end,
+          count,
+          many,
+        )) has.2 has.3,
       );
-      once = λ _ p q v w lt a b. inv.once p q v w lt (let low = worker_below rs q w b in omega (arith, low, end, count, many)) a b;
+      once = λ _ p q v w lt a b. inv.once p q v w lt (let low = worker_below rs q w b in omega (arith, low, end, count, many)) a
+          b;
       twice = λ no. absurd (true≢false no);
     }

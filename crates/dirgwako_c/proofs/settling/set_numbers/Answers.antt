@@ -21,7 +21,8 @@ loop-place-init g c = record {
 
 pub loop-place-preserved : goal.loop-place-preserved
 loop-place-preserved g c =
-    let rs = seats_on c.args.board (recorders_in c.args.spare.now) in let place : ℕ = c.loop-place.place in let r = c.seat-recorder.result.now in
+    let rs = seats_on c.args.board (recorders_in c.args.spare.now) in let place : ℕ = c.loop-place.place in let r =
+    c.seat-recorder.result.now in
     let vector = c.loop-place.out.vector in let all = c.loop-place.invariant.all in
     let worker = its r in let i : ℕ = c.index.result in let n : ℕ = c.number.result in
     let inside = c.index.ensures.inside in
@@ -34,7 +35,8 @@ loop-place-preserved g c =
           (λ last.
           let same : worker ≡ w = some-injective worker w (sym here ∙ (ap (get_elem? (workers_of rs)) (sym last) ∙ at)) in
           ap (get_elem? (set vector i n)) (sym (c.index.ensures.index ∙ ap index_of same))
-          ∙ (set_here vector i n (omega (arith, inside, all)) ∙ ap some (count ∙ ap (λ (v : OneWorker g.row.N g.row.C g.row.H g.row.G). length (lists_of v)) same)))
+          ∙ (set_here vector i n (omega (arith, inside, all)) ∙ ap some (count ∙ ap (λ (v : OneWorker g.row.N g.row.C g.row.H
+          g.row.G). length (lists_of v)) same)))
           (λ other.
           let before : p < place = omega (arith, small, other) in
           set_else vector i (index_of w) n (λ e. c.requires.once p place w worker before at here (e ∙ c.index.ensures.index))
@@ -43,7 +45,8 @@ loop-place-preserved g c =
 
 pub returns : goal.returns
 returns g c = λ p w at.
-    let lt = worker_below (seats_on c.args.board (recorders_in c.args.spare.now)) p w at in let count = c.len-place-end.ensures.count in
+    let lt = worker_below (seats_on c.args.board (recorders_in c.args.spare.now)) p w at in let count =
+    c.len-place-end.ensures.count in
     let many = seats_many c.args.board (recorders_in c.args.spare.now) c.requires.known in
     let end = c.loop-place-test.false in
     c.loop-place.invariant.numbers p w (omega (arith, lt, count, end, many)) at

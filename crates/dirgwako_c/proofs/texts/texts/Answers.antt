@@ -8,7 +8,11 @@ use Rattle.dirgwako_c.proofs.texts.texts.Goals as goal
 
 pub returns-in_default-text-clause-fault : goal.returns-in_default-text-clause-fault
 returns-in_default-text-clause-fault c =
-    inr (refl, λ all. c.in_default-text.ensures (good_there IsUtf8 c.args.bytes.now c.loop-place.place _ c.loop-place-test.true all))
+    inr (
+      refl,
+      λ all. c.in_default-text.ensures (good_there IsUtf8 c.args.bytes.now c.loop-place.place _ c.loop-place-test.true
+          all),
+    )
 
 pub loop-place-preserved : goal.loop-place-preserved
 loop-place-preserved c =

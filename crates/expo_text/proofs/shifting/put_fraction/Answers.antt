@@ -10,7 +10,8 @@ returns-then-count-gt0 g c =
     let places = told.new.places in
     let within = told.ensures.within in
     let long = told.array_long in
-    let count : length (take told.result places) ≡ told.result = length-take-le told.result places (omega (arith, within, long)) in
+    let count : length (take told.result places) ≡ told.result = length-take-le told.result places (omega (arith, within, long))
+    in
     let some = c.if-count-gt0.true in
     let is = pointed_some (take told.result places) (omega (arith, count, some)) ∙ ap pointed told.ensures.filled in
     subst (g.S.Sink.took c.args.sink.now c.put-then-count-gt0.new.self) is

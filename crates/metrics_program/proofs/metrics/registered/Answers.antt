@@ -6,7 +6,8 @@ use Rattle.metrics_program.proofs.metrics.registered.Goals as goal
 pub counter_of-requires-4 : goal.counter_of-requires-4
 counter_of-requires-4 c =
     let first : c.in-Ok.family.number ≡ 0 = c.in-Ok.ensures.number ∙ ap (λ (s : State). length s.families) c.requires.nothing in
-    let none = begun c.args.registry.now c.register.new.self c.in_ok-replies_desc.field-0 c.requires.nothing c.in-Ok.ensures.registered
+    let none = begun c.args.registry.now c.register.new.self c.in_ok-replies_desc.field-0 c.requires.nothing
+    c.in-Ok.ensures.registered
     c.in_ok-replies_desc.ensures in
     record {
       new = new_405 c.in-Ok.family.number first c.register.new.self c.counter_of.new.registry c.counter_of-2.new.registry
@@ -17,7 +18,8 @@ counter_of-requires-4 c =
 pub counter_of-requires-5 : goal.counter_of-requires-5
 counter_of-requires-5 c =
     let first : c.in-Ok.family.number ≡ 0 = c.in-Ok.ensures.number ∙ ap (λ (s : State). length s.families) c.requires.nothing in
-    let none = begun c.args.registry.now c.register.new.self c.in_ok-replies_desc.field-0 c.requires.nothing c.in-Ok.ensures.registered
+    let none = begun c.args.registry.now c.register.new.self c.in_ok-replies_desc.field-0 c.requires.nothing
+    c.in-Ok.ensures.registered
     c.in_ok-replies_desc.ensures in
     record {
       new = new_431 c.in-Ok.family.number first c.register.new.self c.counter_of.new.registry c.counter_of-2.new.registry
@@ -29,7 +31,8 @@ counter_of-requires-5 c =
 pub counter_of-requires-6 : goal.counter_of-requires-6
 counter_of-requires-6 c =
     let first : c.in-Ok.family.number ≡ 0 = c.in-Ok.ensures.number ∙ ap (λ (s : State). length s.families) c.requires.nothing in
-    let none = begun c.args.registry.now c.register.new.self c.in_ok-replies_desc.field-0 c.requires.nothing c.in-Ok.ensures.registered
+    let none = begun c.args.registry.now c.register.new.self c.in_ok-replies_desc.field-0 c.requires.nothing
+    c.in-Ok.ensures.registered
     c.in_ok-replies_desc.ensures in
     record {
       new = new_503 c.in-Ok.family.number first c.register.new.self c.counter_of.new.registry c.counter_of-2.new.registry
@@ -42,7 +45,8 @@ counter_of-requires-6 c =
 pub returns-clause-six : goal.returns-clause-six
 returns-clause-six c =
     let first : c.in-Ok.family.number ≡ 0 = c.in-Ok.ensures.number ∙ ap (λ (s : State). length s.families) c.requires.nothing in
-    let none = begun c.args.registry.now c.register.new.self c.in_ok-replies_desc.field-0 c.requires.nothing c.in-Ok.ensures.registered
+    let none = begun c.args.registry.now c.register.new.self c.in_ok-replies_desc.field-0 c.requires.nothing
+    c.in-Ok.ensures.registered
     c.in_ok-replies_desc.ensures in
     six c.in-Ok.family.number first c.register.new.self c.counter_of.new.registry c.counter_of-2.new.registry
     c.counter_of-3.new.registry none c.in_ok-counter_of.field-0 c.in_ok-counter_of-2.field-0 c.in_ok-counter_of-3.field-0
@@ -54,7 +58,8 @@ returns-clause-six c =
 pub returns-clause-registered : goal.returns-clause-registered
 returns-clause-registered c =
     let first : c.in-Ok.family.number ≡ 0 = c.in-Ok.ensures.number ∙ ap (λ (s : State). length s.families) c.requires.nothing in
-    let none = begun c.args.registry.now c.register.new.self c.in_ok-replies_desc.field-0 c.requires.nothing c.in-Ok.ensures.registered
+    let none = begun c.args.registry.now c.register.new.self c.in_ok-replies_desc.field-0 c.requires.nothing
+    c.in-Ok.ensures.registered
     c.in_ok-replies_desc.ensures in
     registered c.in-Ok.family.number first c.register.new.self c.counter_of.new.registry c.counter_of-2.new.registry
     c.counter_of-3.new.registry none c.in_ok-counter_of.field-0 c.in_ok-counter_of-2.field-0 c.in_ok-counter_of-3.field-0

@@ -31,9 +31,11 @@ loop-board-init g c =
       room = subst (λ (l : List (NewsRing g.row.N g.row.C g.row.H g.row.G)). All (λ p. known_free p ≡ 32991) l) (sym rings)
           (All-nil (λ (p : NewsRing g.row.N g.row.C g.row.H g.row.G). known_free p ≡ 32991));
       over = λ board id all. subst (λ (l : List V). All (IsOver board id) l) (sym same) all;
-      begin = λ board id all. subst (λ (l : List (PageScraper g.row.N g.row.C g.row.H g.row.G)). All (BeginsOn board id) l) (sym scrapers)
+      begin = λ board id all. subst (λ (l : List (PageScraper g.row.N g.row.C g.row.H g.row.G)). All (BeginsOn board id) l) (sym
+          scrapers)
           (All-nil (BeginsOn board id));
-      pairs = subst (λ (l : List (NewsRing g.row.N g.row.C g.row.H g.row.G)). AreTuned l c.in_ok-scrapers.scrapers.items) (sym rings)
+      pairs = subst (λ (l : List (NewsRing g.row.N g.row.C g.row.H g.row.G)). AreTuned l c.in_ok-scrapers.scrapers.items) (sym
+          rings)
           (λ k p s at_p at_s. absurd (none-some p at_p));
     }
 
@@ -53,7 +55,8 @@ loop-board-preserved g c =
     let scraper : P = c.in_ok-new.field-0 in
     let rings_is : c.push.new.self.items ≡ rings ++ ring ∷ [] = c.in_ok-push.ensures.items in
     let scrapers_is : c.push-in-loop-board.new.self.items ≡ scrapers ++ scraper ∷ [] = c.in_ok-push-2.ensures.items in
-    let pair : IsPair ring (news_in scraper) = subst (λ (m : F). IsPair ring m) (sym c.in_ok-new.ensures.news) c.in_ok-ring.ensures.pair in
+    let pair : IsPair ring (news_in scraper) = subst (λ (m : F). IsPair ring m) (sym c.in_ok-new.ensures.news)
+    c.in_ok-ring.ensures.pair in
     record {
       left = let next = ap length step in
           let longer = ap length rings_is in
@@ -63,8 +66,10 @@ loop-board-preserved g c =
       many = ap length rings_is ∙ length_push rings ring ∙ ap (λ n. n + 1) inv.many
           ∙ sym (ap length scrapers_is ∙ length_push scrapers scraper);
       fresh = (next_all (λ (registry : V). registry.state ≡ nothing) before rest c.in-Some.board step inv.fresh).1;
-      untold = all_more (λ (p : R). sent p ≡ []) rings c.push.new.self.items ring rings_is inv.untold c.in_ok-ring.ensures.producer.0;
-      room = all_more (λ (p : R). known_free p ≡ 32991) rings c.push.new.self.items ring rings_is inv.room c.in_ok-ring.ensures.producer.1;
+      untold = all_more (λ (p : R). sent p ≡ []) rings c.push.new.self.items ring rings_is inv.untold
+          c.in_ok-ring.ensures.producer.0;
+      room = all_more (λ (p : R). known_free p ≡ 32991) rings c.push.new.self.items ring rings_is inv.room
+          c.in_ok-ring.ensures.producer.1;
       over = λ board id all. (next_all (IsOver board id) before rest c.in-Some.board step (inv.over board id all)).1;
       begin = λ board id all. all_more (BeginsOn board id) scrapers c.push-in-loop-board.new.self.items scraper scrapers_is
           (inv.begin board id all) (record {

@@ -10,7 +10,8 @@ use Rattle.page_crew.specs.declared.page_scraper.PageScraper.{PageScraper}
 use Rattle.page_crew.specs.declared.shared_scanner.SharedScanner.{SharedScanner}
 use Rattle.page_crew.proofs.appointing.appoint.Given as goal
 
-pub record AreAppointing {N C H G : ℕ} (boards rest : List (RegistryView (SharedScanner N C H G))) (rings : List (NewsRing N C H G))
+pub record AreAppointing {N C H G : ℕ} (boards rest : List (RegistryView (SharedScanner N C H G))) (rings : List (NewsRing N C H
+    G))
     (scrapers : List (PageScraper N C H G)) : Type 0 where
   pub left : length rings + length rest ≡ length boards
   pub many : length rings ≡ length scrapers

@@ -15,11 +15,13 @@ returns-in-Ok-register-clause-done g c =
 pub returns-in-Err-NoMemory-clause-begun : goal.returns-in-Err-NoMemory-clause-begun
 returns-in-Err-NoMemory-clause-begun g c = (
   subst (λ (d : Descriptor). IsPageFamilyFault c.args.page.now.families d NoMemory) c.in-Ok.ensures
-      (subst (IsPageFamilyFault c.args.page.now.families c.in-Ok.copy) c.in-Err-NoMemory.field-0-is c.in-Err-NoMemory.ensures.fault),
+      (subst (IsPageFamilyFault c.args.page.now.families c.in-Ok.copy) c.in-Err-NoMemory.field-0-is
+      c.in-Err-NoMemory.ensures.fault),
   c.in-Err-NoMemory.ensures.unchanged,
 )
 
 pub returns-in-Err-TooManyFamilies-clause-done : goal.returns-in-Err-TooManyFamilies-clause-done
 returns-in-Err-TooManyFamilies-clause-done g c =
-    not_registered c.args.page.now c.register.new.self c.args.desc c.in-Ok.copy c.args.group c.in-Err-TooManyFamilies.field-0 c.in-Ok.ensures
+    not_registered c.args.page.now c.register.new.self c.args.desc c.in-Ok.copy c.args.group c.in-Err-TooManyFamilies.field-0
+    c.in-Ok.ensures
     c.in-Err-TooManyFamilies.field-0-is c.in-Err-TooManyFamilies.ensures.fault c.in-Err-TooManyFamilies.ensures.unchanged

@@ -15,8 +15,12 @@ loop-ring-preserved g c =
     let is : c.push.new.self.items ≡ news ++ it ∷ [] = c.in_ok-push.ensures.items in
     record {
       many = ap length is ∙ length_push news it ∙ ap (λ n. n + 1) inv.many;
-      says = all_more (λ (x : T). IsChildNews c.args.family.number c.args.values.now (unboxed x)) news c.push.new.self.items it is inv.says
-          (subst (IsChildNews c.args.family.number c.args.values.now) (sym c.in_ok-new.ensures.ok) (refl, c.in_ok-values.ensures));
+      says = all_more (λ (x : T). IsChildNews c.args.family.number c.args.values.now (unboxed x)) news c.push.new.self.items it is
+          inv.says
+          (subst (IsChildNews c.args.family.number c.args.values.now) (sym c.in_ok-new.ensures.ok) (
+            refl,
+            c.in_ok-values.ensures,
+          ));
     }
 
 pub returns : goal.returns

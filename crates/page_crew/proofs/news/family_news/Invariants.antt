@@ -7,5 +7,6 @@ use Rattle.page_crew.proofs.news.family_news.Given as goal
 abbrev pub invariant-loop-ring : goal.invariant-loop-ring
 invariant-loop-ring g l = record {
   many : length l.news.items ≡ l._ring;
-  says : All (λ (it : Box (PageNews g.row.N g.row.C g.row.H g.row.G) Global). IsFamilyNews l.desc l.group (unboxed it)) l.news.items;
+  says : All (λ (it : Box (PageNews g.row.N g.row.C g.row.H g.row.G) Global). IsFamilyNews l.desc l.group (unboxed it))
+      l.news.items;
 }

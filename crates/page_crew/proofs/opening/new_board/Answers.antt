@@ -18,11 +18,13 @@ use Rattle.page_crew.proofs.opening.new_board.Goals as goal
 
 pub returns-in-Err-Geometry-clause-fault : goal.returns-in-Err-Geometry-clause-fault
 returns-in-Err-Geometry-clause-fault g c =
-    subst (IsBoardFault g.row.N g.row.C g.row.H g.row.G (1 + c.args.scrapers)) c.in-Err-Geometry.field-0-is c.in-Err-Geometry.ensures.fault
+    subst (IsBoardFault g.row.N g.row.C g.row.H g.row.G (1 + c.args.scrapers)) c.in-Err-Geometry.field-0-is
+    c.in-Err-Geometry.ensures.fault
 
 pub returns-in-Err-NoMemory-clause-fault : goal.returns-in-Err-NoMemory-clause-fault
 returns-in-Err-NoMemory-clause-fault g c =
-    subst (IsBoardFault g.row.N g.row.C g.row.H g.row.G (1 + c.args.scrapers)) c.in-Err-NoMemory.field-0-is c.in-Err-NoMemory.ensures.fault
+    subst (IsBoardFault g.row.N g.row.C g.row.H g.row.G (1 + c.args.scrapers)) c.in-Err-NoMemory.field-0-is
+    c.in-Err-NoMemory.ensures.fault
 
 pub returns-in_default-new-clause-fault : goal.returns-in_default-new-clause-fault
 returns-in_default-new-clause-fault g c = c.in-Ok.ensures.board.1
@@ -41,7 +43,8 @@ others_on-requires g c =
     let all = c.in-Ok.ensures.of_board.1 in
     let left = subst (All (IsReaderOf c.in-Ok.crew.board)) (sym c.pop.ensures.rest)
     (All-take (IsReaderOf c.in-Ok.crew.board) (vec_len c.in-Ok.crew.readers - 1) c.in-Ok.crew.readers.items all) in
-    let there = subst (λ (b : Board g.row.N g.row.C g.row.H g.row.G). All (IsReaderOf b) c.pop.new.self.items) (sym c.in-Ok-new.ensures.ok)
+    let there = subst (λ (b : Board g.row.N g.row.C g.row.H g.row.G). All (IsReaderOf b) c.pop.new.self.items) (sym
+    c.in-Ok-new.ensures.ok)
     left in
     (omega arith, (omega arith, (omega arith, (omega arith, there))))
 

@@ -15,7 +15,8 @@ loop-worker-preserved g c =
       of_board = (next_all (IsWorkerOf (arc_value c.args.board.now))
           (into_iter_items c.loop-worker.worker-iterator) rest c.in-Some.worker step
           inv.of_board).1;
-      boards = all_more (λ r. board_in r ≡ arc_value c.args.board.now) c.loop-worker.recorders.items c.push.new.self.items c.new.result
+      boards = all_more (λ r. board_in r ≡ arc_value c.args.board.now) c.loop-worker.recorders.items c.push.new.self.items
+          c.new.result
           c.in_ok-push.ensures.items inv.boards (c.new.ensures.board ∙ c.in_ok-try_clone.ensures);
       workers = one_over worker_in c.loop-worker.recorders.items c.push.new.self.items c.new.result
           (into_iter_items c.loop-worker.worker-iterator) rest c.in-Some.worker c.in_ok-push.ensures.items step

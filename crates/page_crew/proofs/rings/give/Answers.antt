@@ -17,7 +17,8 @@ push_reserved-requires g c =
     c.requires.many c.in-Some.it (into_iter_items c.next.new.self) c.in-Some.ensures.steps.0 c.index-rings-place.result
     c.index-rings-place.is in (
       subst (λ (p : R). 0 < known_free p) c.index-rings-place.is
-          (all_there (λ (p : R). 0 < known_free p) c.args.rings.now c.loop-it.place c.index-rings-place.result kept c.requires.room),
+          (all_there (λ (p : R). 0 < known_free p) c.args.rings.now c.loop-it.place c.index-rings-place.result kept
+          c.requires.room),
       tt,
     )
 
@@ -26,7 +27,8 @@ loop-it-preserved g c =
     gives c.loop-it.place c.args.rings.now c.loop-it.rings (into_iter_items c.loop-it.it-iterator)
     c.args.items.items c.loop-it.invariant c.requires.many c.in-Some.it (into_iter_items c.next.new.self)
     c.in-Some.ensures.steps.0 c.index-rings-place.result c.push_reserved.new.self c.index-rings-place.is
-    (subst (λ (p : Producer g.row.T.Denot Global AnyItems). IsGiven p c.push_reserved.new.self c.in-Some.it) (sym c.index-rings-place.is)
+    (subst (λ (p : Producer g.row.T.Denot Global AnyItems). IsGiven p c.push_reserved.new.self c.in-Some.it) (sym
+    c.index-rings-place.is)
     (c.push_reserved.ensures.ring, c.push_reserved.ensures.sent.0, c.push_reserved.ensures.sent.1))
 
 pub returns : goal.returns

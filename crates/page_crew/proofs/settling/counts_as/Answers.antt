@@ -13,5 +13,6 @@ returns-in-Some g c = (
     sym c.index.ensures.index ∙ (Decides-eqb c.index.result c.args.worker).0 yes,
   ),
   λ seat. (Decides-eqb c.index.result c.args.worker).1 (c.index.ensures.index
-      ∙ (ap (λ x. index_of (worker_in x)) (same_on c.args.board c.args.recorder.now c.in-Some.on.now seat.0 c.in-Some.ensures seat.1) ∙ seat.2)),
+      ∙ (ap (λ x. index_of (worker_in x)) (same_on c.args.board c.args.recorder.now c.in-Some.on.now seat.0 c.in-Some.ensures
+      seat.1) ∙ seat.2)),
 )

@@ -31,7 +31,8 @@ unreachable-requires g c =
     let inside : place < length rs = omega (arith, lt, few, many) in
     let here : get_elem? rs place ≡ some r = there rs place r inside ∙ ap some (sym c.index-recorders-place.is) in
     let (s, counts, is) = with_one c.args.board rs c.requires.all place r here in
-    All-contains (λ (x : SharedRecorder g.row.N g.row.C g.row.H g.row.G). id_in x ≢ c.args.board) (recorders_of r) s c.in_default.ensures
+    All-contains (λ (x : SharedRecorder g.row.N g.row.C g.row.H g.row.G). id_in x ≢ c.args.board) (recorders_of r) s
+    c.in_default.ensures
     counts.0 counts.1
 
 pub loop-place-preserved : goal.loop-place-preserved

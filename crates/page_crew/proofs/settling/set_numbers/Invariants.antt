@@ -11,7 +11,8 @@ use Rattle.page_crew.proofs.settling.set_numbers.Given as goal
 abbrev pub invariant-loop-place : goal.invariant-loop-place
 invariant-loop-place g l = record {
   all : length l.out.vector ≡ g.row.N;
-  numbers : (i : ℕ) (r : PageRecorder g.row.N g.row.C g.row.H g.row.G) (s : SharedRecorder g.row.N g.row.C g.row.H g.row.G) → i < l.place
+  numbers : (i : ℕ) (r : PageRecorder g.row.N g.row.C g.row.H g.row.G) (s : SharedRecorder g.row.N g.row.C g.row.H g.row.G) → i <
+      l.place
       → get_elem? l.recorders i ≡ some r → CountsWith l.board r s
       → get_elem? l.out.vector i ≡ some (length (member_of (worker_in s)).work.made);
 }

@@ -7,5 +7,7 @@ use Rattle.page_crew.proofs.settling.set_totals.Goals as goal
 pub loop-word-preserved : goal.loop-word-preserved
 loop-word-preserved g c =
     let wide = c.loop-word.invariant.wide in let lt = c.loop-word-test.true in let all = c.totals-word-end.ensures.all in
-    next_total (published_on c.args.board c.args.recorders.now) (width g.row.C g.row.H g.row.G) _ c.loop-word.out c.set_total.new.self
-    c.loop-word.word c.total_at.result c.set_total.ensures (omega (arith, lt, all, wide)) c.total_at.ensures.sum c.loop-word.invariant
+    next_total (published_on c.args.board c.args.recorders.now) (width g.row.C g.row.H g.row.G) _ c.loop-word.out
+    c.set_total.new.self
+    c.loop-word.word c.total_at.result c.set_total.ensures (omega (arith, lt, all, wide)) c.total_at.ensures.sum
+    c.loop-word.invariant

@@ -18,7 +18,8 @@ unreachable-requires g c =
     let rs = c.args.recorders.now in let place : ℕ = c.loop-place.place in let r = c.index-recorders-place.result in
     let here : get_elem? rs place ≡ some r = there rs place r c.loop-place-test.true ∙ ap some (sym c.index-recorders-place.is) in
     let (s, counts, is) = with_one c.args.board rs c.requires.all place r here in
-    All-contains (λ (x : SharedRecorder g.row.N g.row.C g.row.H g.row.G). id_in x ≢ c.args.board) (recorders_of r) s c.in_default.ensures
+    All-contains (λ (x : SharedRecorder g.row.N g.row.C g.row.H g.row.G). id_in x ≢ c.args.board) (recorders_of r) s
+    c.in_default.ensures
     counts.0 counts.1
 
 pub overflow_add-sum : goal.overflow_add-sum
@@ -47,7 +48,8 @@ loop-place-preserved g c =
 
 pub returns-clause-sum : goal.returns-clause-sum
 returns-clause-sum g c =
-    let rs = c.args.recorders.now in let none = none_published c.args.board rs c.loop-place.place c.args.word c.loop-place-test.false in
+    let rs = c.args.recorders.now in let none = none_published c.args.board rs c.loop-place.place c.args.word
+    c.loop-place-test.false in
     let inv = c.loop-place.invariant.rest in
     omega (arith, none, inv)
 

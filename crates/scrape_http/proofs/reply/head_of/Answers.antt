@@ -76,7 +76,8 @@ put-requires c =
 pub put_line-requires : goal.put_line-requires
 put_line-requires c =
     let s = c.args.status in
-    let so_far = up_to_allow _ _ _ _ s c.new-head.ensures c.put_status.ensures.short (c.as_bytes.ensures.value ∙ c.allow_line.ensures)
+    let so_far = up_to_allow _ _ _ _ s c.new-head.ensures c.put_status.ensures.short (c.as_bytes.ensures.value ∙
+    c.allow_line.ensures)
     c.put.ensures in
     let type = ap length (c.as_bytes-2.ensures.value ∙ c.type_of.ensures) in
     let long = long_type s in
@@ -86,7 +87,8 @@ pub put_line-requires-2 : goal.put_line-requires-2
 put_line-requires-2 c =
     let s = c.args.status in
     let so_far = up_to_type _ _ _ s (up_to_allow _ _ _ _ s c.new-head.ensures c.put_status.ensures.short
-    (c.as_bytes.ensures.value ∙ c.allow_line.ensures) c.put.ensures) (c.as_bytes-2.ensures.value ∙ c.type_of.ensures) c.put_line.ensures in
+    (c.as_bytes.ensures.value ∙ c.allow_line.ensures) c.put.ensures) (c.as_bytes-2.ensures.value ∙ c.type_of.ensures)
+    c.put_line.ensures in
     let number = c.as_bytes-3.ensures.len in
     let short = c.format.ensures.short in
     omega (arith, so_far, number, short)
@@ -95,10 +97,12 @@ pub put_line-requires-3 : goal.put_line-requires-3
 put_line-requires-3 c =
     let s = c.args.status in
     let so_far = up_to_type _ _ _ s (up_to_allow _ _ _ _ s c.new-head.ensures c.put_status.ensures.short
-    (c.as_bytes.ensures.value ∙ c.allow_line.ensures) c.put.ensures) (c.as_bytes-2.ensures.value ∙ c.type_of.ensures) c.put_line.ensures in
+    (c.as_bytes.ensures.value ∙ c.allow_line.ensures) c.put.ensures) (c.as_bytes-2.ensures.value ∙ c.type_of.ensures)
+    c.put_line.ensures in
     let number = c.as_bytes-3.ensures.len in
     let short = c.format.ensures.short in
-    let more = line_more c.put_line.new.self (codes "Content-Length: ") c.as_bytes-3.result.now c.put_line-2.new.self c.put_line-2.ensures in
+    let more = line_more c.put_line.new.self (codes "Content-Length: ") c.as_bytes-3.result.now c.put_line-2.new.self
+    c.put_line-2.ensures in
     omega (arith, so_far, number, short, more)
 
 up_to_close : (d n e f : List ℕ) → length d ≤ 138 → length n ≤ 20 → e ≡ d ++ line (codes "Content-Length: " ++ n)
@@ -112,7 +116,8 @@ pub put-requires-2 : goal.put-requires-2
 put-requires-2 c =
     let s = c.args.status in
     let so_far = up_to_type _ _ _ s (up_to_allow _ _ _ _ s c.new-head.ensures c.put_status.ensures.short
-    (c.as_bytes.ensures.value ∙ c.allow_line.ensures) c.put.ensures) (c.as_bytes-2.ensures.value ∙ c.type_of.ensures) c.put_line.ensures in
+    (c.as_bytes.ensures.value ∙ c.allow_line.ensures) c.put.ensures) (c.as_bytes-2.ensures.value ∙ c.type_of.ensures)
+    c.put_line.ensures in
     let number = c.as_bytes-3.ensures.len in
     let short = c.format.ensures.fits in
     let all = up_to_close _ c.as_bytes-3.result.now _ c.put_line-3.new.self so_far (omega (arith, number, short))
@@ -123,7 +128,8 @@ pub returns-clause-short : goal.returns-clause-short
 returns-clause-short c =
     let s = c.args.status in
     let so_far = up_to_type _ _ _ s (up_to_allow _ _ _ _ s c.new-head.ensures c.put_status.ensures.short
-    (c.as_bytes.ensures.value ∙ c.allow_line.ensures) c.put.ensures) (c.as_bytes-2.ensures.value ∙ c.type_of.ensures) c.put_line.ensures in
+    (c.as_bytes.ensures.value ∙ c.allow_line.ensures) c.put.ensures) (c.as_bytes-2.ensures.value ∙ c.type_of.ensures)
+    c.put_line.ensures in
     let number = c.as_bytes-3.ensures.len in
     let short = c.format.ensures.fits in
     let all = up_to_close _ c.as_bytes-3.result.now _ c.put_line-3.new.self so_far (omega (arith, number, short))

@@ -25,7 +25,8 @@ loop-part-init c = record {
 pub put_families-requires-clause-ordered : goal.put_families-requires-clause-ordered
 put_families-requires-clause-ordered c =
     pairs_same IsBefore name_of name_of c.args.frames.now c.loop-part.frames
-    (zip_map (IsFed (families_of c.loop-part.yielded)) name_of name_of (λ a b fed. fed_same fed) c.args.frames.now c.loop-part.frames
+    (zip_map (IsFed (families_of c.loop-part.yielded)) name_of name_of (λ a b fed. fed_same fed) c.args.frames.now
+    c.loop-part.frames
     c.loop-part.invariant.fed)
     c.requires.ordered
 
@@ -43,7 +44,8 @@ put_families-requires-clause-known c =
     c.loop-part.invariant.fed))
     (all_front (P (map name_of c.args.frames.now)) part.families (families_of rest)
     (all_back (P (map name_of c.args.frames.now)) (families_of front) (part.families ++ families_of rest)
-    (subst (All (P (map name_of c.args.frames.now))) (families_split c.args.parts.items front part rest split) c.requires.known))))
+    (subst (All (P (map name_of c.args.frames.now))) (families_split c.args.parts.items front part rest split)
+    c.requires.known))))
 
 pub put_families-requires-clause-room : goal.put_families-requires-clause-room
 put_families-requires-clause-room c =
@@ -53,7 +55,8 @@ put_families-requires-clause-room c =
     let split : c.args.parts.items ≡ front ++ part ∷ rest =
     c.loop-part.invariant.split ∙ ap (λ (l : List Scraped). front ++ l) c.in-Some.ensures.steps.0 in
     subst (λ (l : List Family). All (HasRoomFor l) c.loop-part.frames) (sym c.into_parts-numbers.ensures.families)
-    (zip_all (HasRoomFor (families_of front ++ (part.families ++ families_of rest))) (IsFed (families_of front)) (HasRoomFor part.families)
+    (zip_all (HasRoomFor (families_of front ++ (part.families ++ families_of rest))) (IsFed (families_of front)) (HasRoomFor
+    part.families)
     (λ a b room fed. room_front part.families (families_of rest) b
     (room_behind (families_of front) (part.families ++ families_of rest) a b room fed))
     c.args.frames.now c.loop-part.frames
@@ -68,12 +71,14 @@ loop-part-preserved c =
     let front : List Scraped = c.loop-part.yielded in
     let push : families_of (front ++ part ∷ []) ≡ families_of front ++ part.families = families_push front part in
     let here : AllZip (IsFed part.families) c.loop-part.frames c.put_families.new.frames =
-    subst (λ (l : List Family). AllZip (IsFed l) c.loop-part.frames c.put_families.new.frames) c.into_parts-numbers.ensures.families
+    subst (λ (l : List Family). AllZip (IsFed l) c.loop-part.frames c.put_families.new.frames)
+    c.into_parts-numbers.ensures.families
     c.put_families.ensures in
     record {
       split = c.loop-part.invariant.split ∙ ap (λ (l : List Scraped). front ++ l) c.in-Some.ensures.steps.0
           ∙ sym (append_assoc front (part ∷ []) rest);
-      vector = c.in-Ok.ensures.items ∙ ap₂ (λ (l k : List ℕ). l ++ k) c.loop-part.invariant.vector c.into_parts-numbers.ensures.vector
+      vector = c.in-Ok.ensures.items ∙ ap₂ (λ (l k : List ℕ). l ++ k) c.loop-part.invariant.vector
+          c.into_parts-numbers.ensures.vector
           ∙ flat_map_more (λ (part : Scraped). part.vector) c.args.vector.now.items front part;
       room = omega arith;
       fed = subst (λ (l : List Family). AllZip (IsFed l) c.args.frames.now c.put_families.new.frames) (sym push)

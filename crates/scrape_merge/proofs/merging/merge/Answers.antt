@@ -54,7 +54,8 @@ new-requires c =
     subst (λ (l : List Held). AllZip IsShown l c.show_all.result.items)
     (written c.gather.new.frames hs c.frames.inside.families.len c.frames.inside.families.ok.0
     (zip_length (IsFed (families_of c.args.parts.items)) hs c.gather.new.frames fed)) c.show_all.ensures in
-    is_scrape hs c.args.frames c.args.parts.items is c.requires c.frames.invariant.each c.gather.new.frames fed c.show_all.result.items
+    is_scrape hs c.args.frames c.args.parts.items is c.requires c.frames.invariant.each c.gather.new.frames fed
+    c.show_all.result.items
     shows c.gather.ensures.each c.gather.new.vector.items
 
 pub returns : goal.returns
@@ -68,7 +69,8 @@ returns c =
     subst (λ (l : List Held). AllZip IsShown l c.show_all.result.items)
     (written c.gather.new.frames hs c.frames.inside.families.len c.frames.inside.families.ok.0
     (zip_length (IsFed (families_of c.args.parts.items)) hs c.gather.new.frames fed)) c.show_all.ensures in
-    is_merged hs c.args.frames c.args.parts.items is c.requires c.frames.invariant.each c.gather.new.frames fed c.show_all.result.items
+    is_merged hs c.args.frames c.args.parts.items is c.requires c.frames.invariant.each c.gather.new.frames fed
+    c.show_all.result.items
     shows c.gather.ensures.each c.gather.new.vector.items c.new.result
     (c.gather.ensures.vector
     ∙ ap (λ (l : List ℕ). l ++ flat_map (λ (part : Scraped). part.vector) c.args.parts.items) c.frames.invariant.no_numbers)

@@ -14,7 +14,8 @@ returns c = record {
   marked = λ marked now. elim c.if-frame-2.branch [
     | then-frame-2 w ↦
         subst (AllPairs IsChildBefore)
-        (ap₂ (λ (xs ys : List Child). xs ++ ys) w.deref.ensures.value w.deref-then-frame-2.ensures.value ∙ sym c.in-Ok.ensures.items)
+        (ap₂ (λ (xs ys : List Child). xs ++ ys) w.deref.ensures.value w.deref-then-frame-2.ensures.value ∙ sym
+        c.in-Ok.ensures.items)
         (w.stand_before-frame.ensures (sym w.frame-is ∙ now)
         (subst (AllPairs IsChildBefore) (sym w.deref.ensures.value) (marked w.if-frame-2.true))
         (subst (AllPairs IsChildBefore) (sym w.deref-then-frame-2.ensures.value) c.requires.ordered))

@@ -13,8 +13,10 @@ loop-frame-preserved c =
     record {
       split = c.loop-frame.invariant.split ∙ ap (λ (l : List Held). c.loop-frame.yielded ++ l) c.in-Some.ensures.steps.0
           ∙ sym (append_assoc c.loop-frame.yielded (c.in-Some.frame ∷ []) rest);
-      shown = subst (λ (l : List Family). AllZip IsShown (c.loop-frame.yielded ++ c.in-Some.frame ∷ []) l) (sym c.in-Ok.ensures.items)
-          (zip_push IsShown c.loop-frame.yielded c.loop-frame.shown.items c.in-Some.frame c.show.result c.loop-frame.invariant.shown
+      shown = subst (λ (l : List Family). AllZip IsShown (c.loop-frame.yielded ++ c.in-Some.frame ∷ []) l) (sym
+          c.in-Ok.ensures.items)
+          (zip_push IsShown c.loop-frame.yielded c.loop-frame.shown.items c.in-Some.frame c.show.result
+          c.loop-frame.invariant.shown
           c.show.ensures);
       room = omega arith;
     }

@@ -38,7 +38,8 @@ returns-in-Err-clause-each g c = tt
 pub returns-in-Err-clause-stopped : goal.returns-in-Err-clause-stopped
 returns-in-Err-clause-stopped g c =
     let lt = c.loop-at-test.true in let end = c.len-at-end.ensures in let same = c.loop-at.invariant.len in
-    inr (stopped (AsksAgain g.X.MakesScrapes.made g.X.MakesScrapes.again) c.args.boards.now.items c.loop-at.boards.items c.loop-at.at
+    inr (stopped (AsksAgain g.X.MakesScrapes.made g.X.MakesScrapes.again) c.args.boards.now.items c.loop-at.boards.items
+    c.loop-at.at
     c.index_mut.result.now c.scrape_board.new.board c.loop-at.parts.items (omega (arith, lt, end, same)) (omega (arith, lt, end))
     c.loop-at.invariant.rest c.index_mut.ensures.value c.loop-at.invariant.each c.in-Err.why c.in-Err.ensures)
 
@@ -54,10 +55,12 @@ loop-at-preserved g c =
           (take (c.loop-at.at + 1) c.args.boards.now.items)
           (take (c.loop-at.at + 1) (set c.loop-at.boards.items c.loop-at.at c.scrape_board.new.board)) l)
           (sym c.push_reserved.ensures.items)
-          (made_more (AsksAgain g.X.MakesScrapes.made g.X.MakesScrapes.again) c.args.boards.now.items c.loop-at.boards.items c.loop-at.at
+          (made_more (AsksAgain g.X.MakesScrapes.made g.X.MakesScrapes.again) c.args.boards.now.items c.loop-at.boards.items
+          c.loop-at.at
           c.index_mut.result.now c.scrape_board.new.board c.loop-at.parts.items in_now in_old c.loop-at.invariant.rest
           c.index_mut.ensures.value c.loop-at.invariant.each c.in-Ok-scrape_board.part c.in-Ok-scrape_board.ensures);
-      rest = still_behind (AsksAgain g.X.MakesScrapes.made g.X.MakesScrapes.again) c.args.boards.now.items c.loop-at.boards.items c.loop-at.at
+      rest = still_behind (AsksAgain g.X.MakesScrapes.made g.X.MakesScrapes.again) c.args.boards.now.items c.loop-at.boards.items
+          c.loop-at.at
           c.index_mut.result.now c.scrape_board.new.board c.loop-at.parts.items in_now in_old c.loop-at.invariant.rest
           c.index_mut.ensures.value c.loop-at.invariant.each;
     }

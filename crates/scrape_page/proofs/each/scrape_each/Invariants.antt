@@ -10,6 +10,7 @@ invariant-loop-at g l = record {
   len : vec_len l.boards ≡ vec_len l.fn.boards;
   count : vec_len l.parts ≡ l.at;
   room : vec_len l.fn.boards ≤ vec_capacity l.parts;
-  each : AreMade (AsksAgain g.X.MakesScrapes.made g.X.MakesScrapes.again) (take l.at l.fn.boards.items) (take l.at l.boards.items) l.parts.items;
+  each : AreMade (AsksAgain g.X.MakesScrapes.made g.X.MakesScrapes.again) (take l.at l.fn.boards.items) (take l.at l.boards.items)
+      l.parts.items;
   rest : drop l.at l.boards.items ≡ drop l.at l.fn.boards.items;
 }

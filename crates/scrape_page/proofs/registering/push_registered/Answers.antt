@@ -81,7 +81,8 @@ returns-clause-registered g c = record {
   number = c.in_ok-family.family.number;
   registered = c.in_ok-family.ensures.registered;
   families = family_more c.args.families.now.items c.reserve.new.self.items c.push_reserved-2.new.self.items c.args.desc
-      c.in_ok-copy.field-0 c.in_ok-kept.kept.value c.args.group c.args.home c.in_ok-parts.parts.items c.push_reserved.new.self.items
+      c.in_ok-copy.field-0 c.in_ok-kept.kept.value c.args.group c.args.home c.in_ok-parts.parts.items
+      c.push_reserved.new.self.items
       (part_at c.args.home c.in_ok-family.family.number) c.in_ok-reserve.ensures.items c.push_reserved-2.ensures.items
       c.in_ok-kept.ensures.ok c.in_ok-copy.ensures c.in_ok-parts.ensures.items c.push_reserved.ensures.items;
 }

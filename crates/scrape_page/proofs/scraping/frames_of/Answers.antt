@@ -28,7 +28,8 @@ loop-number-preserved c =
     record {
       numbers = let kept = pushed.numbers in let old = c.loop-number.invariant.numbers in omega (arith, kept, old);
       frames = elim c.if-len-le1.branch [
-        | then-len-le1 w ↦ more_single c.args.families.now c.args.order.now c.loop-number.number-index n family c.loop-number.frames
+        | then-len-le1 w ↦ more_single c.args.families.now c.args.order.now c.loop-number.number-index n family
+            c.loop-number.frames
             c.push.new.self within here there is c.loop-number.invariant.frames
             (subst (λ (room : Option ℕ). IsPushed family.desc room c.loop-number.frames c.push.new.self) w.room-is pushed)
             (omega arith)

@@ -18,12 +18,19 @@ returns-clause-hidden g c =
     let own = c.worker-worker.ensures.index in let place = c.item_at-number_item.ensures.place in
     let lens = c.requires.lengths in
     let d = c.fill_item.auto.hidden in let d' = c.fill_touched.auto.hidden in
-    let long : length target ≡ b = (let e = words_long w (length v.vector.now) v.row.now v.flag v.vector.now v.totals.now v.wide refl w
+    let long : length target ≡ b = (let e = words_long w (length v.vector.now) v.row.now v.flag v.vector.now v.totals.now v.wide
+    refl w
     lens.2 in let e' = lens.1 in omega (arith, e, e')) in
     let number : ℕ = c.item_at-number_item.result in
     let word : c.number_of-number.result ≡ get_or target number 0 = c.number_of-number.ensures
     ∙ ap (λ (k : ℕ). get_or target k 0) (let e : w + 1 + i ≡ number = omega (arith, place) in e) in
-    let room : number < length c.args.hidden.now = (let lt = c.requires.stores.of_board.1 in let e = lens.0 in omega (arith, place, lt, e, own)) in
+    let room : number < length c.args.hidden.now = (let lt = c.requires.stores.of_board.1 in let e = lens.0 in omega (
+      arith,
+      place,
+      lt,
+      e,
+      own,
+    )) in
     let new = c.fill_touched.ensures in
     let mid : (j : ℕ) → get_or c.args.hidden.now j 0 ≡ get_or target j 0 → get_or c.fill_item.new.hidden j 0 ≡ get_or target j 0 =
     λ j same. ap (λ (l : List ℕ). get_or l j 0) c.fill_item.ensures.hidden

@@ -26,7 +26,11 @@ flag_is false = refl
 -- what was written over the first words of a buffer, all of them, is what it holds
 written : (new slice items : List ℕ) (n : ℕ) → slice ≡ items → length slice ≡ n → length new ≡ length slice
     → take n (new ++ drop (length new) items) ≡ new
-written new slice items n value len same = over new items n (same ∙ ap (λ (l : List ℕ). length l) value) (omega (arith, len, same))
+written new slice items n value len same = over new items n (same ∙ ap (λ (l : List ℕ). length l) value) (omega (
+  arith,
+  len,
+  same,
+))
 
 pub fill_next-requires : goal.fill_next-requires
 fill_next-requires g c =
@@ -51,10 +55,20 @@ fill_next-requires g c =
                 ap (λ (l : List ℕ). length l) shown ∙ t.shown_deep,
                 (let e : length (target_of v) ≡ b = omega (arith, long, lens.0, lens.1) in e),
               );
-              few = let c1 = slots.counters in let c2 = slots.histograms in let c3 = slots.gauges in omega (arith, few, c1, c2, c3);
+              few = let c1 = slots.counters in let c2 = slots.histograms in let c3 = slots.gauges in omega (
+                arith,
+                few,
+                c1,
+                c2,
+                c3,
+              );
               inside = (t.recent_inside, t.late_inside, λ j has. let lt = c.requires.touched j has in omega (arith, lt));
-              listed = λ known. let a = and_parts _ _ known in let a' = and_parts _ _ a.0 in
-                  (sym c.is_all.ensures ∙ not-true _ a'.1, sym c.is_all-2.ensures ∙ not-true _ a.1, (q (sym c.is_known.ensures ∙ a'.0)).0);
+              listed = λ known. let a = and_parts _ _ known in let a' = and_parts _ _ a.0 in (
+                sym c.is_all.ensures ∙ not-true _ a'.1,
+                sym c.is_all-2.ensures ∙ not-true _ a.1,
+                (q (sym c.is_known.ensures ∙
+                    a'.0)).0,
+              );
               differ = λ listed j lt not_there. ap (λ (l : List ℕ). slice_index l j) hidden
                   ∙ (t.recent listed j (let e = ap (λ (l : List ℕ). length l) shown in omega (arith, lt, e)) not_there
                   ∙ ap (λ (l : List ℕ). slice_index l j) (sym shown));
@@ -64,7 +78,8 @@ fill_next-requires g c =
                   c.has_view-lends.ensures.none is.1.1 in
                   let flag : c.from.result ≡ 1 = c.from.ensures ∙ ap bool_byte lends in
                   let next = c.requires.images.0 in
-                  let same : slice_index im.shown.items j ≡ slice_index next j = t.late (sym c.is_all-2.ensures ∙ not-true _ a.1) j
+                  let same : slice_index im.shown.items j ≡ slice_index next j = t.late (sym c.is_all-2.ensures ∙ not-true _ a.1)
+                  j
                   (let e = t.idle_deep in omega (arith, lt, e)) not_late in
                   let words : target_of v ≡ version_words c.args.row.now 1 (answer_of c.args.memory.now c.args.ended).vector
                   (answer_of c.args.memory.now c.args.ended).totals = c.new-version.ensures.words
@@ -93,7 +108,8 @@ returns-clause-hidden g c =
     let old = c.args.images.now.hidden in let new = c.fill_next.new.hidden in let n = c.as_mut_slice.ensures.len in
     written new c.as_mut_slice.result.now old.items old.len c.as_mut_slice.ensures.value n c.fill_next.auto.hidden
     ∙ (c.fill_next.ensures.hidden ∙ (c.new-version.ensures.words
-    ∙ (λ z. version_words c.args.row.now ((c.from.ensures ∙ flag_is c.has_view-lends.result) z) (c.answer.ensures.vector z) (c.answer.ensures.totals z))))
+    ∙ (λ z. version_words c.args.row.now ((c.from.ensures ∙ flag_is c.has_view-lends.result) z) (c.answer.ensures.vector z)
+    (c.answer.ensures.totals z))))
 
 pub returns-clause-recent : goal.returns-clause-recent
 returns-clause-recent g c =

@@ -19,7 +19,8 @@ publish_again-requires g c =
         search rules,
         (
           search rules,
-          may_repeat_only c.args.board.now c.args.seat.now c.args.row.now c.args.memory.now c.args.ended c.args.ops.now c.requires.may
+          may_repeat_only c.args.board.now c.args.seat.now c.args.row.now c.args.memory.now c.args.ended c.args.ops.now
+              c.requires.may
               c.args.images.now c.args.plan c.requires.planned
               repeats (c.in-One.word ∷ [])
               (subst (AreOf g.row.C g.row.H c.args.ops.now) c.in-One.is c.requires.words),
@@ -35,7 +36,8 @@ publish_three_again-requires g c =
         search rules,
         (
           search rules,
-          may_repeat_only c.args.board.now c.args.seat.now c.args.row.now c.args.memory.now c.args.ended c.args.ops.now c.requires.may
+          may_repeat_only c.args.board.now c.args.seat.now c.args.row.now c.args.memory.now c.args.ended c.args.ops.now
+              c.requires.may
               c.args.images.now c.args.plan c.requires.planned
               repeats c.in-Three.words
               (subst (AreOf g.row.C g.row.H c.args.ops.now) c.in-Three.is c.requires.words),
@@ -73,7 +75,8 @@ returns-in-Three-clause-fit g c =
     let new = c.publish_three_again.new in
     fits_again c.args.board.now c.args.seat.now c.args.row.now c.args.memory.now c.args.ended c.args.ops.now c.requires.may
     c.args.images.now c.args.plan c.requires.planned
-    repeats new.seat new.memory (record c.args.images.now { hidden = new.hidden; shown = new.shown }) refl c.publish_three_again.ensures
+    repeats new.seat new.memory (record c.args.images.now { hidden = new.hidden; shown = new.shown }) refl
+    c.publish_three_again.ensures
 
 pub returns-in-Unknown-clause-fit : goal.returns-in-Unknown-clause-fit
 returns-in-Unknown-clause-fit g c =
@@ -81,4 +84,5 @@ returns-in-Unknown-clause-fit g c =
     let new = c.publish_list_again.new in
     fits_again c.args.board.now c.args.seat.now c.args.row.now c.args.memory.now c.args.ended c.args.ops.now c.requires.may
     c.args.images.now c.args.plan c.requires.planned
-    repeats new.seat new.memory (record c.args.images.now { hidden = new.hidden; shown = new.shown }) refl c.publish_list_again.ensures
+    repeats new.seat new.memory (record c.args.images.now { hidden = new.hidden; shown = new.shown }) refl
+    c.publish_list_again.ensures

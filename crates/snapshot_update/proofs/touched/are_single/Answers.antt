@@ -8,7 +8,8 @@ use Rattle.snapshot_scan.proofs.Words.{take_all}
 use Rattle.snapshot_update.proofs.touched.are_single.Goals as goal
 
 -- one operation more that adds nothing there
-one_more : (c h k i : ℕ) (ops : List Op) (d : Op) → i < length ops → sum_ops c h (take i ops) k ≡ 0 → part c h (get_or ops i d) k ≡ 0
+one_more : (c h k i : ℕ) (ops : List Op) (d : Op) → i < length ops → sum_ops c h (take i ops) k ≡ 0 → part c h (get_or ops i d) k
+    ≡ 0
     → sum_ops c h (take (i + 1) ops) k ≡ 0
 one_more c h k i ops d lt a b = let s = sum_by_more (λ op. part c h op k) ops i d lt in omega (arith, s, a, b)
 
@@ -24,7 +25,8 @@ loop-at-preserved g c =
 
 pub returns : goal.returns
 returns g c =
-    let is = c.loop-at.invariant in let f = c.loop-at-test.false in let end = c.loop-at.auto.at-end in let e = c.if-ops-words.false in
+    let is = c.loop-at.invariant in let f = c.loop-at-test.false in let end = c.loop-at.auto.at-end in let e =
+    c.if-ops-words.false in
     let words = c.args.words.now in record {
       rises = λ _ k none. ap (λ (l : List Op). sum_ops g.row.C g.row.H l k)
           (sym (take_all c.args.ops.now c.loop-at.at (omega (arith, f, end))))

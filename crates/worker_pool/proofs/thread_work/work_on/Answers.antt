@@ -37,6 +37,7 @@ pub loop-next-preserved : goal.loop-next-preserved
 loop-next-preserved g c =
     let k = c.loop-next.next in let jobs = jobs_at (g.Q.JobLists.lists c.args.lists.now) c.args.place in
     let job = c.job-job.result in
-    did_more c.args.board.now jobs c.args.worker.now c.loop-next.worker c.run.new.worker k job (item_is jobs k job c.job-job.ensures)
+    did_more c.args.board.now jobs c.args.worker.now c.loop-next.worker c.run.new.worker k job (item_is jobs k job
+    c.job-job.ensures)
     c.loop-next.invariant
     c.in_default.ensures.of_board c.in_default.ensures.index c.in_default.ensures.counted

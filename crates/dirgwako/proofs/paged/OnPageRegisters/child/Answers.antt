@@ -35,6 +35,7 @@ gives old new family number values (Err why) is group given inside fault told un
 
 pub returns : goal.returns
 returns g c =
-    gives c.args.self.now (record { crew = c.child.new.self; group = c.args.self.now.group }) c.args.family c.of.result.number c.args.values.now
+    gives c.args.self.now (record { crew = c.child.new.self; group = c.args.self.now.group }) c.args.family c.of.result.number
+    c.args.values.now
     c.child.result (c.of.ensures ∙ c.number.ensures) refl c.child.ensures.given c.child.ensures.inside c.child.ensures.fault
     c.child.ensures.told c.child.ensures.untold

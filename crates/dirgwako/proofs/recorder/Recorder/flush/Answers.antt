@@ -24,7 +24,8 @@ returns-in-Ok-clause-flushed g c = record {
 pub returns-in-Err-clause-fault : goal.returns-in-Err-clause-fault
 returns-in-Err-clause-fault g c =
     let m = member_of (worker_in c.args.self.now) in
-    let why : IsApplyFault g.row.C g.row.H g.row.G m c.args.tally.now.ops c.in-Err.fault = rw (← c.ops.ensures.ops) c.in-Err.ensures.fault in (
+    let why : IsApplyFault g.row.C g.row.H g.row.G m c.args.tally.now.ops c.in-Err.fault = rw (← c.ops.ensures.ops)
+    c.in-Err.ensures.fault in (
       sym c.registry.ensures ∙ c.if-registry-id.false ∙ c.id.ensures,
       why,
       refused_alike g.row.C g.row.H g.row.G c.args.tally.now.ops m c.in-Err.fault

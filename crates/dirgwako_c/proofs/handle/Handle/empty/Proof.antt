@@ -31,14 +31,23 @@ use Rattle.dirgwako_c.proofs.handle.Handle.empty.Code as compiled
 pub empty_spec : {M : Type 1} → statement M
 empty_spec 𝓤 𝓛 𝓜 𝓡 wired T L d glued =
     let H = 𝓛.H in let R : RattleType = param 0 T in
-    let θ = bounded (a_type ∷ []) (T, tt) (dcons d dnil) in let En = ended T d in let c = clauses T d 𝓛 𝓜.mem 𝓡.returns in let fn : Fn = inst_fn θ compiled.function in
+    let θ = bounded (a_type ∷ []) (T, tt) (dcons d dnil) in let En = ended T d in let c = clauses T d 𝓛 𝓜.mem 𝓡.returns in let fn
+    : Fn = inst_fn θ compiled.function in
     let stays : Stays En.signature.params En.kept = tt in
     let C = (tables 𝓤 H 𝓜 𝓡 𝓡.env).C in let Λ = (tables 𝓤 H 𝓜 𝓡 𝓡.env).Λ in
     let Nothing : Option R.Denot = None in
-    let x : (handle.the_row R).Denot = record { at = null_ptr; live = 0; value = Nothing; empty = λ _. refl; full = λ is. absurd (is refl) } in
+    let x : (handle.the_row R).Denot = record {
+      at = null_ptr;
+      live = 0;
+      value = Nothing;
+      empty = λ _. refl;
+      full = λ is. absurd
+          (is refl);
+    } in
     proved_at 𝓛 En stays c 𝓜 𝓡 tt (#self θ) fn (compiled.unfolded 𝓤 H 𝓜 𝓡 wired (T, tt) d) (λ z are.
     let Post : Val → SProp 𝓤 = (walk_of 𝓛 En stays c).post z in
-    qed 𝓛 ((raw (alive 𝓛 En.signature z.0.0 z.0.1) ⊛ ‵ (owns (types_at En.signature.params z.0.0) z.0.3 z.0.4)) ∷ raw ((c z.0.0 z.0.3).requires z.1) ∷ []) ∵ move ! (1 ∷ []) $ drop ! $ split ! $ keep ! (0 ∷ []) $
+    qed 𝓛 ((raw (alive 𝓛 En.signature z.0.0 z.0.1) ⊛ ‵ (owns (types_at En.signature.params z.0.0) z.0.3 z.0.4)) ∷ raw ((c z.0.0
+    z.0.3).requires z.1) ∷ []) ∵ move ! (1 ∷ []) $ drop ! $ split ! $ keep ! (0 ∷ []) $
     enter ! C Λ fn [] Post $
     alloc_all ! (λ l. pass_all ! refl tt $ let E : Env 𝓤 𝓛.H = env fn.locals l in
     sets ! (agg ! (and_then ! (lit ! tt) (and_then ! (lit ! tt) (no_more !)))) refl (handle_typed null_ptr 0 (lit< tt)) $

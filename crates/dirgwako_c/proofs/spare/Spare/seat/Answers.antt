@@ -9,7 +9,8 @@ use Rattle.dirgwako_c.proofs.spare.Spare.seat.Goals as goal
 
 pub bounds-recorders-board : goal.bounds-recorders-board
 bounds-recorders-board g c =
-    let knows = from_all (Knows c.args.board) (recorders_in c.args.self.now) c.requires.known c.args.place c.at.result.now c.at.ensures in
+    let knows = from_all (Knows c.args.board) (recorders_in c.args.self.now) c.requires.known c.args.place c.at.result.now
+    c.at.ensures in
     let same = ap length c.recorders.ensures.recorders in omega (arith, knows, same)
 
 pub returns : goal.returns

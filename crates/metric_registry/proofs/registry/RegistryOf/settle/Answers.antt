@@ -14,9 +14,30 @@ one_name (Some x) a b some p q = p x refl ∙ sym (q x refl)
 pub settle_state-requires : goal.settle_state-requires
 settle_state-requires g c =
     let source = c.into_state.result.source in
-    let same = one_name g.B.Named.board (name_of (board_in source)) (name_of c.args.board.now) c.requires.some c.into_state.ensures.of.0
-    c.requires.named in
-    (omega arith, (omega arith, (omega arith, (omega arith, (omega arith, (omega arith, (source.of_board ∙ same, c.requires.of_board)))))))
+    let same = one_name g.B.Named.board (name_of (board_in source)) (name_of c.args.board.now) c.requires.some
+    c.into_state.ensures.of.0
+    c.requires.named in (
+      omega arith,
+      (
+        omega arith,
+        (
+          omega arith,
+          (
+            omega arith,
+            (
+              omega arith,
+              (
+                omega arith,
+                (
+                  source.of_board ∙ same,
+                  c.requires.of_board,
+                ),
+              ),
+            ),
+          ),
+        ),
+      ),
+    )
 
 pub unreachable-requires : goal.unreachable-requires
 unreachable-requires g c = let missing = c.in_default-settle_state.ensures.missing in

@@ -24,7 +24,8 @@ invariant_of-self g c =
     let added : c.add_board.new.self.boards ≡ boards ++ board ∷ [] =
     ap (λ (p : PageView (SharedScanner g.row.N g.row.C g.row.H g.row.G)). p.boards) c.in-Ok-add_board.ensures.added in
     let given : AreGiven old.rings.items c.give.new.rings c.in_ok-registry.field-0.recorders.items =
-    subst (λ (l : List R). AreGiven l c.give.new.rings c.in_ok-registry.field-0.recorders.items) c.deref_mut.ensures.value c.give.ensures in
+    subst (λ (l : List R). AreGiven l c.give.new.rings c.in_ok-registry.field-0.recorders.items) c.deref_mut.ensures.value
+    c.give.ensures in
     let items = with_items_is old.rings c.give.new.rings (c.give.ensures.many ∙ c.deref_mut.ensures.len) in
     record {
       numbered = subst (λ (l : List V). AreNumbered old.first l) (sym added) (numbered_more old.first boards old.numbered board
@@ -32,7 +33,8 @@ invariant_of-self g c =
       low = old.low;
       kept = old.kept;
       size = old.size;
-      readers = let told = with_items_is old.news c.tell.new.rings (c.tell.ensures.many ∙ c.deref_mut-in-Ok-add_board.ensures.len) in
+      readers = let told = with_items_is old.news c.tell.new.rings (c.tell.ensures.many ∙ c.deref_mut-in-Ok-add_board.ensures.len)
+          in
           let few = old.readers in
           let same = ap length told in
           let many = c.tell.ensures.many in
@@ -40,7 +42,8 @@ invariant_of-self g c =
           omega (arith, few, same, many, lent);
       count = ap length items ∙ given.many ∙ old.count;
       room = subst (λ (l : List R). HaveRoom (length c.add_board.new.self.boards) l) (sym items)
-          (room_left (length boards) (length c.add_board.new.self.boards) old.rings.items c.give.new.rings c.in_ok-registry.field-0.recorders.items
+          (room_left (length boards) (length c.add_board.new.self.boards) old.rings.items c.give.new.rings
+          c.in_ok-registry.field-0.recorders.items
           (ap length added ∙ length_push boards board) given old.room);
     }
 
@@ -64,7 +67,8 @@ unreachable-requires g c =
     let few = c.if-number-ge-MOST.false in
     let same = ap length c.boards-number.ensures.boards in
     let made = c.in_ok-registry.ensures.new in
-    never_refused old.first old.page.boards old.numbered c.in_ok-registry.field-0.registry (made.id_is ∙ ap (λ n. old.first + n) same)
+    never_refused old.first old.page.boards old.numbered c.in_ok-registry.field-0.registry (made.id_is ∙ ap (λ n. old.first + n)
+    same)
     made.state (omega (arith, few, same)) c.in-Err.refused.fault c.in-Err.ensures.fault c.in-TooManyBoards.is
 
 pub returns-in-Ok-add_board-clause-grown : goal.returns-in-Ok-add_board-clause-grown
@@ -77,11 +81,13 @@ returns-in-Ok-add_board-clause-grown g c =
       owner = (refl, refl);
       board = c.in_ok-registry.field-0.registry;
       recorders = c.in_ok-registry.field-0.recorders.items;
-      is_new = subst (λ n. IsNewBoard (old.first + n) old.window c.in_ok-registry.field-0.registry c.in_ok-registry.field-0.recorders.items)
+      is_new = subst (λ n. IsNewBoard (old.first + n) old.window c.in_ok-registry.field-0.registry
+          c.in_ok-registry.field-0.recorders.items)
           (ap length c.boards-number.ensures.boards) made;
       page = c.in-Ok-add_board.ensures.added;
       given = subst (λ (l : List R). AreGiven old.rings.items l c.in_ok-registry.field-0.recorders.items) (sym items)
-          (subst (λ (l : List R). AreGiven l c.give.new.rings c.in_ok-registry.field-0.recorders.items) c.deref_mut.ensures.value c.give.ensures);
+          (subst (λ (l : List R). AreGiven l c.give.new.rings c.in_ok-registry.field-0.recorders.items) c.deref_mut.ensures.value
+          c.give.ensures);
     }
 
 pub board_news-requires : goal.board_news-requires
@@ -97,7 +103,8 @@ tell-requires g c =
     let R = NewsRing g.row.N g.row.C g.row.H g.row.G in
     let old = c.args.self.now in
     let others = c.in_ok-registry.field-0.others.items in
-    let same : c.deref.result.now ≡ c.deref_mut-in-Ok-add_board.result.now = c.deref.ensures.value ∙ sym c.deref_mut-in-Ok-add_board.ensures.value in (
+    let same : c.deref.result.now ≡ c.deref_mut-in-Ok-add_board.result.now = c.deref.ensures.value ∙ sym
+    c.deref_mut-in-Ok-add_board.ensures.value in (
       omega arith,
       (
         let told = length-map c.in-Ok.news.items unboxed in
@@ -129,8 +136,10 @@ returns-in-Ok-add_board-clause-told g c =
       told = record {
         news = c.in-Ok.news.items;
         given = subst (λ (l : List R). AreGiven old.news.items l c.in-Ok.news.items) (sym items)
-            (subst (λ (l : List R). AreGiven l c.tell.new.rings c.in-Ok.news.items) c.deref_mut-in-Ok-add_board.ensures.value c.tell.ensures);
-        says = board_said (arc_value board.source.board) id c.in_ok-registry.field-0.others.items c.in-Ok.news.items c.in-Ok.ensures.boards
+            (subst (λ (l : List R). AreGiven l c.tell.new.rings c.in-Ok.news.items) c.deref_mut-in-Ok-add_board.ensures.value
+            c.tell.ensures);
+        says = board_said (arc_value board.source.board) id c.in_ok-registry.field-0.others.items c.in-Ok.news.items
+            c.in-Ok.ensures.boards
             over;
       };
     }

@@ -9,7 +9,8 @@ pub tell-requires : goal.tell-requires
 tell-requires g c =
     let old = c.args.self.now in (
       omega arith,
-      may_tell (IsFamilyNews c.args.desc c.args.group) old.news.items c.deref.result.now c.deref_mut.result.now c.deref_mut.result.now
+      may_tell (IsFamilyNews c.args.desc c.args.group) old.news.items c.deref.result.now c.deref_mut.result.now
+          c.deref_mut.result.now
           c.deref_mut.result.now c.in-Ok.news.items c.deref.ensures.value c.deref_mut.ensures.value refl c.in-Ok.ensures,
     )
 

@@ -20,7 +20,8 @@ loop-number-preserved g c =
       many = ap length new ∙ length_push boards totals ∙ ap (λ n. n + 1) inv.many;
       room = let same = c.push_reserved.ensures.capacity in let before = inv.room in omega (arith, same, before);
       each = λ k taken at. elim (at_push boards totals k taken (subst (λ (l : List Taken). slice_get l k ≡ Some taken) new at)) [
-        | inl last ↦ subst (λ j. IsExactOn (first + j) rs taken) (sym (last.0 ∙ inv.many)) (subst (IsExactOn (first + number) rs) last.1 exact)
+        | inl last ↦ subst (λ j. IsExactOn (first + j) rs taken) (sym (last.0 ∙ inv.many)) (subst (IsExactOn (first + number) rs)
+            last.1 exact)
         | inr there ↦ inv.each k taken there.1
       ];
     }

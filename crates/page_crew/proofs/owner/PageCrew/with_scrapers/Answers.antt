@@ -1,4 +1,5 @@
-use Rattle.std.proofs.Common.{◌≡◌, ℕ, ◌+◌, ◌*◌, ◌<◌, All, List, ◌∷◌, [], Some, length, slice_get, ap, subst, sym, refl, ◌∙◌, arith, inl, inr}
+use Rattle.std.proofs.Common.{◌≡◌, ℕ, ◌+◌, ◌*◌, ◌<◌, All, List, ◌∷◌, [], Some, length, slice_get, ap, subst, sym, refl, ◌∙◌}
+use Rattle.std.proofs.Common.{arith, inl, inr}
 use Rattle.std.proofs.lemmas.List.{length-map, with_items_is}
 use Rattle.std.proofs.lemmas.List.FromFn.{length-range_with_len}
 use Rattle.std.proofs.lemmas.Option.{none-some}
@@ -47,7 +48,8 @@ unreachable-requires g c =
     let board = c.in-Ok.made.registry in
     let none : AreNumbered first [] = λ k (b : V) at. absurd (none-some b at) in
     let id : board.id ≡ first + 0 = let is = c.in-Ok.ensures.new.id_is in omega (arith, is) in
-    never_refused first [] none board id c.in-Ok.ensures.new.state (omega arith) c.in-Err-new.refused.fault c.in-Err-new.ensures.fault
+    never_refused first [] none board id c.in-Ok.ensures.new.state (omega arith) c.in-Err-new.refused.fault
+    c.in-Err-new.ensures.fault
     c.in-TooManyBoards.is
 
 pub new_board-requires : goal.new_board-requires

@@ -9,7 +9,8 @@ use Rattle.page_crew.proofs.page_recorder.PageRecorder.apply.Goals as goal
 pub invariant_of-self : goal.invariant_of-self
 invariant_of-self g c =
     let mid = c.find.new.self in
-    let read = one_read (λ r. id_in r ≡ c.args.id) mid.recorders.items c.in-Some.place c.index_mut.result.now c.in-Some.ensures.place
+    let read = one_read (λ r. id_in r ≡ c.args.id) mid.recorders.items c.in-Some.place c.index_mut.result.now
+    c.in-Some.ensures.place
     c.index_mut.ensures.value in
     held_on mid c.in-Some.place c.index_mut.result.now c.apply.new.self read.0 (c.apply.ensures.board, c.apply.ensures.index)
 
@@ -18,7 +19,8 @@ returns-in-Ok-clause-published g c =
     let mid = c.find.new.self.recorders.items in
     let read = one_read (λ r. id_in r ≡ c.args.id) mid c.in-Some.place c.index_mut.result.now c.in-Some.ensures.place
     c.index_mut.ensures.value in
-    one_did c.args.id c.args.self.now.recorders.items mid (IsPublished c.args.ops.now) c.in-Some.place c.index_mut.result.now c.apply.new.self
+    one_did c.args.id c.args.self.now.recorders.items mid (IsPublished c.args.ops.now) c.in-Some.place c.index_mut.result.now
+    c.apply.new.self
     c.find.ensures.joined read.0 read.1 (c.apply.ensures.board, c.apply.ensures.index)
     (record {
       updated = c.in-Ok.ensures.updated;

@@ -69,7 +69,8 @@ loop-more-preserved g c =
       );
       first_is = c.loop-more.invariant.first_is;
       same = feed_then c.args.self.now.more c.loop-more.self.more c.pop_known.new.self c.loop-more.invariant.same
-          (feed_then c.loop-more.self.more c.is_empty.new.self c.pop_known.new.self c.is_empty.ensures.looked.0 c.pop_known.ensures.ring);
+          (feed_then c.loop-more.self.more c.is_empty.new.self c.pop_known.new.self c.is_empty.ensures.looked.0
+          c.pop_known.ensures.ring);
       few = omega (arith, few, longer, after);
     }
 

@@ -17,4 +17,5 @@ pub record IsJoined {N C H G : ℕ} (first first' at : ℕ) (old new : List (Sha
   pub same : SameConsumer feed feed'
 
 abbrev pub invariant-loop-more : goal.invariant-loop-more
-invariant-loop-more g l = IsJoined l.fn.self.first l.self.first l._more l.fn.self.recorders.items l.self.recorders.items l.fn.self.more l.self.more
+invariant-loop-more g l = IsJoined l.fn.self.first l.self.first l._more l.fn.self.recorders.items l.self.recorders.items
+    l.fn.self.more l.self.more

@@ -10,5 +10,6 @@ returns-in-Ok-clause-published g c =
 
 pub returns-in-Err-clause-fault : goal.returns-in-Err-clause-fault
 returns-in-Err-clause-fault g c =
-    first_refused (recorders_of c.args.self.now) (recorders_of c.apply.new.self) c.args.changes.now _ c.ops_of.result c.in-Err.fault
+    first_refused (recorders_of c.args.self.now) (recorders_of c.apply.new.self) c.args.changes.now _ c.ops_of.result
+    c.in-Err.fault
     (c.if-not-are_of.ensures.0 refl) (omega arith) c.ops_of.ensures c.in-Err.ensures.fault

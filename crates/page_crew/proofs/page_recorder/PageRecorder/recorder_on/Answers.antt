@@ -19,7 +19,8 @@ index-requires g c =
 pub returns-in-Some : goal.returns-in-Some
 returns-in-Some g c =
     let recorders = c.args.self.now.recorders.items in
-    let read = one_read (λ r. id_in r ≡ c.args.board) recorders c.in-Some.place c.index.result.now c.in-Some.ensures c.index.ensures in
+    let read = one_read (λ r. id_in r ≡ c.args.board) recorders c.in-Some.place c.index.result.now c.in-Some.ensures
+    c.index.ensures in
     let there = within (λ r. id_in r ≡ c.args.board) recorders c.in-Some.place c.in-Some.ensures in
     ((c.in-Some.place, there, sym c.index.ensures), read.1)
 

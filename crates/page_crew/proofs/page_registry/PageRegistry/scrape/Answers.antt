@@ -18,7 +18,8 @@ returns g c =
     let boards : c.boards.result.now ≡ (page_of c.scrape-scrape.new.self).boards =
     c.boards.ensures.boards ∙ ap (λ (p : PageView S). p.boards) page in
     record {
-      moments = shows_moments c.deref_mut.result.now c.scrape-scrape.new.self c.scrape-scrape.result c.scrape-scrape.ensures.scraped
+      moments = shows_moments c.deref_mut.result.now c.scrape-scrape.new.self c.scrape-scrape.result
+          c.scrape-scrape.ensures.scraped
           (subst (λ (p : PageView S). IsPage p) page c.boards.ensures.kept)
           (subst (λ (l : List (RegistryView S)). All IsKeptBoard l) boards c.look_at.ensures);
     }

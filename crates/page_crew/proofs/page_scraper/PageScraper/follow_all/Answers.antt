@@ -10,7 +10,12 @@ use Rattle.page_crew.proofs.page_scraper.PageScraper.follow_all.Goals as goal
 pub loop-news-init : goal.loop-news-init
 loop-news-init g c =
     let old : PageScraper g.row.N g.row.C g.row.H g.row.G = c.args.self.now in
-    let now : PageScraper g.row.N g.row.C g.row.H g.row.G = record { page = old.page; news = c.slots-news-end.new.self; held = old.held } in
+    let now : PageScraper g.row.N g.row.C g.row.H g.row.G = record {
+      page = old.page;
+      news = c.slots-news-end.new.self;
+      held =
+          old.held;
+    } in
     record {
       followed = looked_on old now c.slots-news-end.ensures.looked refl refl;
       none = c.requires;
@@ -58,4 +63,8 @@ pub returns-clause-caught_up : goal.returns-clause-caught_up
 returns-clause-caught_up g c =
     let left = c.loop-news.invariant.left in
     let end = c.loop-news-test.false in
-    all_known c.args.self.now c.loop-news.self c.loop-news.invariant.followed c.loop-news.invariant.none (omega (arith, left, end))
+    all_known c.args.self.now c.loop-news.self c.loop-news.invariant.followed c.loop-news.invariant.none (omega (
+      arith,
+      left,
+      end,
+    ))

@@ -10,7 +10,8 @@ returns-clause-recorded g c =
     scan_tells g.row.N g.row.C g.row.H g.row.G (omega (arith, geometry)) (members_with c.scan-answer.new.self)
     c.scan-answer.ensures.ruled (has_member (members_with c.scan-answer.new.self) c.scan-answer.new.self.leads)
     c.scan-answer.new.self.moments (scan_by c.args.self.now.reader) (as_answer c.scan-answer.new.out)
-    (ap length (sym c.totals-totals.ensures.words) ∙ c.totals-totals.ensures.all) c.scan-answer.result c.scan-answer.ensures.answered
+    (ap length (sym c.totals-totals.ensures.words) ∙ c.totals-totals.ensures.all) c.scan-answer.result
+    c.scan-answer.ensures.answered
 
 pub returns-clause-rose : goal.returns-clause-rose
 returns-clause-rose g c = contended_rose g.row.N (scan_by c.args.self.now.reader) (scan_by c.scan-answer.new.self)

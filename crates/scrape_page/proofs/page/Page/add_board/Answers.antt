@@ -19,7 +19,10 @@ push_reserved-requires g c =
 
 pub invariant_of-self : goal.invariant_of-self
 invariant_of-self g c =
-    subst (λ (bs : List (RegistryView g.row.S.Denot)). IsHeldPage (record { boards = bs; families = c.self.inside.families.items })
+    subst (λ (bs : List (RegistryView g.row.S.Denot)). IsHeldPage (record {
+      boards = bs;
+      families = c.self.inside.families.items;
+    })
     c.self.inside.order.items) (sym c.reserve.ensures.items) c.self.invariant
 
 pub invariant_of-self-2 : goal.invariant_of-self-2
@@ -33,7 +36,10 @@ invariant_of-self-2 g c =
     (c.is_fresh.ensures.0 c.if-not-is_fresh.false) in
     let after : c.push_reserved.new.self.items ≡ boards ++ c.args.board ∷ [] =
     c.push_reserved.ensures.items ∙ ap (λ l. l ++ c.args.board ∷ []) c.reserve.ensures.items in
-    subst (λ (bs : List (RegistryView g.row.S.Denot)). IsHeldPage (record { boards = bs; families = c.self.inside.families.items })
+    subst (λ (bs : List (RegistryView g.row.S.Denot)). IsHeldPage (record {
+      boards = bs;
+      families = c.self.inside.families.items;
+    })
     c.self.inside.order.items) (sym after)
     (held_board c.args.board boards c.self.inside.families.items c.self.inside.order.items c.self.invariant few fresh)
 
@@ -119,7 +125,8 @@ returns-then-is_err-clause-unchanged g c =
 
 pub returns-clause-number : goal.returns-clause-number
 returns-clause-number g c =
-    c.len-number.ensures ∙ sym c.deref.ensures.len ∙ ap (λ (bs : List (RegistryView g.row.S.Denot)). length bs) c.deref.ensures.value
+    c.len-number.ensures ∙ sym c.deref.ensures.len ∙ ap (λ (bs : List (RegistryView g.row.S.Denot)). length bs)
+    c.deref.ensures.value
     ∙ ap (λ (p : PageView g.row.S.Denot). length p.boards) c.self.view_is
 
 pub returns-clause-added : goal.returns-clause-added

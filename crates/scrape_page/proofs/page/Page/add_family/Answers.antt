@@ -29,10 +29,13 @@ push_registered-requires g c =
           (subst (λ (l : List (RegistryView g.row.S.Denot)). 0 < length l) (sym c.as_slice-boards.ensures.value)
           c.self.invariant.page_is.some) c.as_slice-boards.type_inv.1,
       (
-        subst (λ (l : List ℕ). c.place_of_name-place.result ≤ length l) c.deref-2.ensures.value c.place_of_name-place.ensures.within,
+        subst (λ (l : List ℕ). c.place_of_name-place.result ≤ length l) c.deref-2.ensures.value
+            c.place_of_name-place.ensures.within,
         fits_at g.row.C g.row.H g.row.G page c.self.inside.order.items c.self.invariant c.args.desc c.args.group c.args.home
-            (subst (λ (p : PageView g.row.S.Denot). AreApart p.families c.args.desc × (length p.families < 128)) view c.requires.accepted)
-            (subst (λ (p : PageView g.row.S.Denot). IsHome g.row.C g.row.H g.row.G p c.args.desc.kind c.args.group c.args.home) view
+            (subst (λ (p : PageView g.row.S.Denot). AreApart p.families c.args.desc × (length p.families < 128)) view
+            c.requires.accepted)
+            (subst (λ (p : PageView g.row.S.Denot). IsHome g.row.C g.row.H g.row.G p c.args.desc.kind c.args.group c.args.home)
+            view
             c.requires.home),
       ),
     )
@@ -43,13 +46,16 @@ invariant_of-self g c =
     let view : c.args.self.now ≡ page = sym c.self.view_is in
     let name : c.as_str.result.now ≡ c.args.desc.name = c.as_str.ensures.text ∙ c.name.ensures in
     let at : IsPlaceOfName (map as_family page.families) c.self.inside.order.items c.args.desc.name c.place_of_name-place.result =
-    subst (λ (l : List PageFamily). IsPlaceOfName (map as_family l) c.self.inside.order.items c.args.desc.name c.place_of_name-place.result)
+    subst (λ (l : List PageFamily). IsPlaceOfName (map as_family l) c.self.inside.order.items c.args.desc.name
+    c.place_of_name-place.result)
     c.deref.ensures.value
     (subst (λ (o : List ℕ). IsPlaceOfName (map as_family c.deref.result.now) o c.args.desc.name c.place_of_name-place.result)
     c.deref-2.ensures.value
-    (subst (λ (t : List ℕ). IsPlaceOfName (map as_family c.deref.result.now) c.deref-2.result.now t c.place_of_name-place.result) name
+    (subst (λ (t : List ℕ). IsPlaceOfName (map as_family c.deref.result.now) c.deref-2.result.now t c.place_of_name-place.result)
+    name
     c.place_of_name-place.ensures)) in
-    held_either g.row.C g.row.H g.row.G page _ c.args.desc c.args.group c.args.home c.self.inside.order.items _ c.place_of_name-place.result
+    held_either g.row.C g.row.H g.row.G page _ c.args.desc c.args.group c.args.home c.self.inside.order.items _
+    c.place_of_name-place.result
     c.self.invariant
     (subst (λ (p : PageView g.row.S.Denot). AreApart p.families c.args.desc × (length p.families < 128)) view c.requires.accepted)
     (subst (λ (p : PageView g.row.S.Denot). IsHome g.row.C g.row.H g.row.G p c.args.desc.kind c.args.group c.args.home) view

@@ -20,7 +20,8 @@ Board g = BoardScrapes g.row.N g.row.C g.row.H g.row.G g.S.Source.recorded g.S.S
 
 -- what the page did
 abbrev Alone : (g : Over) → (number : ℕ) → PageView g.row.S.Denot → PageView g.row.S.Denot → Result Scraped NoScrape → Type 0
-Alone g number old new result = BoardAloneScrapes g.row.N g.row.C g.row.H g.row.G g.S.Source.recorded g.S.Source.quit g.S.Source.gave
+Alone g number old new result = BoardAloneScrapes g.row.N g.row.C g.row.H g.row.G g.S.Source.recorded g.S.Source.quit
+    g.S.Source.gave
     g.S.Source.gave_up number old new result
 
 pub invariant_of-self : goal.invariant_of-self
@@ -50,7 +51,8 @@ returns g c =
     (unshown_as (Board g) (Alone g c.args.number) c.index_mut.result.now c.keep_again.new.board old new (λ r did. record {
       before = c.index_mut.result.now;
       after = c.keep_again.new.board;
-      at = slice_get_read old.boards (length old.boards) c.args.number c.index_mut.result.now refl within c.index_mut.ensures.value;
+      at = slice_get_read old.boards (length old.boards) c.args.number c.index_mut.result.now refl within
+          c.index_mut.ensures.value;
       scrapes = did;
       new_is = refl;
     }) c.keep_again.result c.keep_again.ensures)

@@ -16,7 +16,8 @@ make_on-requires g c =
           (subst (λ (l : List (RegistryView g.row.S.Denot)). 0 < length l) (sym c.as_slice-boards.ensures.value)
           c.self.invariant.page_is.some) c.as_slice-boards.type_inv.1,
       can_make C H G page c.args.number c.args.part c.args.values.now c.self.invariant.page_is
-          (subst (λ (p : PageView g.row.S.Denot). MayGrow C H G p c.args.number c.args.part c.args.values.now) (sym c.self.view_is)
+          (subst (λ (p : PageView g.row.S.Denot). MayGrow C H G p c.args.number c.args.part c.args.values.now) (sym
+          c.self.view_is)
           c.requires),
     )
 
@@ -53,7 +54,8 @@ invariant_of-self-2 g c =
     let may : MayGrow C H G page c.args.number c.args.part c.args.values.now =
     subst (λ (p : PageView g.row.S.Denot). MayGrow C H G p c.args.number c.args.part c.args.values.now) (sym c.self.view_is)
     c.requires in
-    held_born C H G page _ c.self.inside.order.items c.args.number c.args.part c.args.values.now c.in_ok-handle.handle c.self.invariant may
+    held_born C H G page _ c.self.inside.order.items c.args.number c.args.part c.args.values.now c.in_ok-handle.handle
+    c.self.invariant may
     (adds_child C H G page _ c.args.number c.args.part c.args.values.now c.in_ok-handle.handle c.index_mut-it.result.now _ may
     c.index_mut-it.ensures.value c.it.view_is c.in_ok-handle.ensures.made refl)
 
@@ -74,7 +76,8 @@ returns-clause-made g c =
         children = c.it.inside.children + 1;
       });
     } in
-    subst (λ (p : PageView g.row.S.Denot). AddsChild C H G p new c.args.number c.args.part c.args.values.now c.in_ok-handle.handle)
+    subst (λ (p : PageView g.row.S.Denot). AddsChild C H G p new c.args.number c.args.part c.args.values.now
+    c.in_ok-handle.handle)
     c.self.view_is
     (adds_child C H G page new c.args.number c.args.part c.args.values.now c.in_ok-handle.handle c.index_mut-it.result.now _ may
     c.index_mut-it.ensures.value c.it.view_is c.in_ok-handle.ensures.made refl)

@@ -13,7 +13,9 @@ invariant_of-result g c =
     let order : c.new-2.result.items ≡ [] = search rules in
     let empty : length c.args.board.state.families ≡ 0 =
     let count = c.family_count.ensures in let none = c.if-family_count-gt0.false in omega (arith, count, none) in
-    subst (λ (bs : List (RegistryView g.row.S.Denot)). IsHeldPage (record { boards = bs; families = c.new.result.items }) c.new-2.result.items)
+    subst (λ (bs : List (RegistryView g.row.S.Denot)). IsHeldPage (record { boards = bs; families = c.new.result.items })
+    c.new-2.result.items)
     (sym boards)
-    (subst (λ (fs : List PageFamily). IsHeldPage (record { boards = c.args.board ∷ []; families = fs }) c.new-2.result.items) (sym families)
+    (subst (λ (fs : List PageFamily). IsHeldPage (record { boards = c.args.board ∷ []; families = fs }) c.new-2.result.items) (sym
+    families)
     (subst (IsHeldPage (record { boards = c.args.board ∷ []; families = [] })) (sym order) (held_new c.args.board empty)))

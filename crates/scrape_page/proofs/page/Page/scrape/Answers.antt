@@ -14,7 +14,8 @@ use Rattle.scrape_page.proofs.page.Page.scrape.Goals.{in-Ok-scrape_each, in-Err}
 
 pub frames_of-requires : goal.frames_of-requires
 frames_of-requires g c =
-    subst (λ (families : List PageFamily). All (λ number. number < length families) c.deref-2.result.now) (sym c.deref.ensures.value)
+    subst (λ (families : List PageFamily). All (λ number. number < length families) c.deref-2.result.now) (sym
+    c.deref.ensures.value)
     (subst (All (λ number. number < length c.self.inside.families.items)) (sym c.deref-2.ensures.value)
     (numbers_below c.self.inside.families.items c.self.inside.order.items c.self.invariant.ordered))
 
@@ -30,7 +31,8 @@ merge-requires g c =
     let product : c.in-Some.numbers ≡ g.row.N * c.len.result = c.in-Some.ensures.1 in
     let numbers : c.in-Some.numbers ≡ g.row.N * length c.self.inside.boards.items = product ∙ ap (λ m. g.row.N * m) long in
     can_merge g.row.N g.row.C g.row.H g.row.G g.S.Source.recorded g.S.Source.quit g.S.Source.gave g.S.Source.gave_up
-    c.self.inside.boards.items c.scrape_each.new.boards.items c.self.inside.families.items c.self.inside.order.items c.self.invariant
+    c.self.inside.boards.items c.scrape_each.new.boards.items c.self.inside.families.items c.self.inside.order.items
+    c.self.invariant
     c.in-Ok.frames
     (framed_as c.self.inside.families.items c.deref.result.now c.self.inside.order.items c.deref-2.result.now c.in-Ok.frames
     c.deref.ensures.value c.deref-2.ensures.value c.in-Ok.ensures.frames)
@@ -52,12 +54,14 @@ invariant_of-self g c = elim c.match-scrape_each.branch [
 pub returns : goal.returns
 returns g c =
     let old : PageView g.row.S.Denot = record { boards = c.self.inside.boards.items; families = c.self.inside.families.items } in
-    let new : PageView g.row.S.Denot = record { boards = c.scrape_each.new.boards.items; families = c.self.inside.families.items } in
+    let new : PageView g.row.S.Denot = record { boards = c.scrape_each.new.boards.items; families = c.self.inside.families.items }
+    in
     subst (λ (page : PageView g.row.S.Denot). PageScrapes g.row.N g.row.C g.row.H g.row.G g.S.Source.recorded g.S.Source.quit
     g.S.Source.gave g.S.Source.gave_up page new c.match-scrape_each.result) c.self.view_is
     (elim c.match-scrape_each.branch [
       | in-Ok-scrape_each w ↦
-          subst (λ (result : Result Scraped NoScrape). PageScrapes g.row.N g.row.C g.row.H g.row.G g.S.Source.recorded g.S.Source.quit
+          subst (λ (result : Result Scraped NoScrape). PageScrapes g.row.N g.row.C g.row.H g.row.G g.S.Source.recorded
+          g.S.Source.quit
           g.S.Source.gave g.S.Source.gave_up old new result) (sym w.result-is)
           (shows_page g.row.N g.row.C g.row.H g.row.G g.S.Source.recorded g.S.Source.quit g.S.Source.gave g.S.Source.gave_up
           c.self.inside.boards.items c.scrape_each.new.boards.items c.self.inside.families.items c.self.inside.order.items
@@ -66,7 +70,8 @@ returns g c =
           c.deref.ensures.value c.deref-2.ensures.value c.in-Ok.ensures.frames)
           w.in-Ok-scrape_each.parts.items w.in-Ok-scrape_each.ensures.each w.merge.result w.merge.ensures)
       | in-Err w ↦
-          subst (λ (result : Result Scraped NoScrape). PageScrapes g.row.N g.row.C g.row.H g.row.G g.S.Source.recorded g.S.Source.quit
+          subst (λ (result : Result Scraped NoScrape). PageScrapes g.row.N g.row.C g.row.H g.row.G g.S.Source.recorded
+          g.S.Source.quit
           g.S.Source.gave g.S.Source.gave_up old new result) (sym w.result-is)
           (record { families = refl; stopped = w.in-Err.ensures.stopped })
     ])

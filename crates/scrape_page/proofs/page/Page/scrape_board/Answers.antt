@@ -37,12 +37,14 @@ returns g c =
     } in
     let within : c.args.number < length old.boards =
     subst (λ (page : PageView g.row.S.Denot). c.args.number < length page.boards) (sym c.self.view_is) c.requires in
-    subst (λ (page : PageView g.row.S.Denot). BoardAloneScrapes g.row.N g.row.C g.row.H g.row.G g.S.Source.recorded g.S.Source.quit
+    subst (λ (page : PageView g.row.S.Denot). BoardAloneScrapes g.row.N g.row.C g.row.H g.row.G g.S.Source.recorded
+    g.S.Source.quit
     g.S.Source.gave g.S.Source.gave_up c.args.number page new c.scrape_board.result) c.self.view_is
     (record {
       before = c.index_mut.result.now;
       after = c.scrape_board.new.board;
-      at = slice_get_read old.boards (length old.boards) c.args.number c.index_mut.result.now refl within c.index_mut.ensures.value;
+      at = slice_get_read old.boards (length old.boards) c.args.number c.index_mut.result.now refl within
+          c.index_mut.ensures.value;
       scrapes = c.scrape_board.ensures;
       new_is = refl;
     })

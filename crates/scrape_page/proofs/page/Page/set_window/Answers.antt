@@ -11,7 +11,8 @@ use Rattle.scrape_page.proofs.page.Page.set_window.Goals as goal
 pub set_each-requires : goal.set_each-requires
 set_each-requires g c = (
   one_fits (length c.deref_mut.result.now) _ _
-      (subst (λ (boards : List (RegistryView g.row.S.Denot)). 0 < length boards) (sym c.deref_mut.ensures.value) c.self.invariant.page_is.some)
+      (subst (λ (boards : List (RegistryView g.row.S.Denot)). 0 < length boards) (sym c.deref_mut.ensures.value)
+      c.self.invariant.page_is.some)
       c.deref_mut.type_inv.1,
   (let low = c.if-window-lt1.false in omega (arith, low), let high = c.if-window-gt-MAX_WINDOW.false in omega (arith, high)),
 )
