@@ -54,8 +54,8 @@ def next_group(crate, left):
 
 
 def refused_in(told, name):
-    """Whether a function is refused by itself: True or False; None where it waits for one that it calls."""
-    lines = re.findall(rf"^fn [\w:+#<>=,. ]*\b{name}: (.*)$", told, re.M)
+    """Whether a function, or any where it has no name here, is refused by itself: True or False; None where it waits for one that it calls."""
+    lines = re.findall(rf"^fn [\w:+#<>=,. ]*{rf'\b{name}' if name else ''}: (.*)$", told, re.M)
     bad = [line for line in lines if not re.match(r"proved|no holes", line)]
     if not bad:
         return False
@@ -74,31 +74,26 @@ def told_by(place, crate, texts):
 
 
 def trial(place, crate):
-    """Tries all wrong bodies of a crate that stand aside, and tells those that are not refused."""
-    left, through = sorted((crate / "wrong-bodies").glob("*.edit")), []
+    """Tries all wrong bodies of a crate that stand aside, and tells those that are not refused. One whose check says nothing of its function is none
+    that was tried: it does not compile, or the check broke off."""
+    left, bad = sorted((crate / "wrong-bodies").glob("*.edit")), []
     while left:
         group, texts = next_group(crate, left)
         told, status = told_by(place, crate, texts)
-        alone = len(group) == 1
-        for body, names in group:
-            ends = [refused_in(told, name) for name in names if name]
-            if True in ends or alone and status:
-                print(f"{crate.name}: {body.name} is refused", flush=True)
-            elif None in ends and not alone:
+        ends = {body: [refused_in(told, name) for name in names] for body, names in group}
+        if len(group) > 1 and not any(True in it for it in ends.values()):
+            # None of them is told by itself: the first one alone.
+            body, names = group[0]
+            told, status = told_by(place, crate, aside.changed(crate, body))
+            ends = {body: [refused_in(told, name) for name in names]}
+        for body, its in ends.items():
+            if None in its and True not in its and len(ends) > 1:
                 continue
-            else:
-                print(f"{crate.name}: {body.name} is NOT REFUSED", flush=True)
-                through.append(body)
+            word = "is refused" if True in its else "is NOT REFUSED" if not status else "was NOT TRIED"
+            print(f"{crate.name}: {body.name} {word}", flush=True)
+            bad += [] if True in its else [body]
             left.remove(body)
-        if not alone and all(body in left for body, _ in group):
-            # None of them is told by itself: one by one.
-            left = [group[0][0], *(body for body in left if body != group[0][0])]
-            group, texts = [group[0]], aside.changed(crate, group[0][0])
-            told, status = told_by(place, crate, texts)
-            print(f"{crate.name}: {group[0][0].name} is {'refused' if status else 'NOT REFUSED'}", flush=True)
-            through += [] if status else [group[0][0]]
-            left.remove(group[0][0])
-    return through
+    return bad
 
 
 def main():

@@ -24,8 +24,8 @@ typedef struct block {
     uint64_t unused;
 } block;
 
-/* Of each class the first free block, and in the upper half how often the list has changed: who read the list before another one took a block of it and
-   gave it back meets another number. */
+/* Of each class the first free block, and in the upper half how often the list has changed, modulo 2^32: who read the list before another one took a
+   block of it and gave it back meets another number, unless it was stopped for just as many changes. */
 typedef struct arena {
     size_t bytes, used;
     uint64_t free[CLASSES];

@@ -160,21 +160,27 @@ class Shared(unittest.TestCase):
             self.assertEqual((self.value("c_total", k="x"), self.value("c_total", k=str(n))), (n + 2, n))
 
     def test_stopped(self):
-        """Others make children at once, whatever a process is stopped within while it scrapes: it may be taking memory."""
+        """Others make children, whatever a process is stopped within while it scrapes: it is often taking memory."""
         c = shared.Counter("c", "C.", ["k"], registry=self.registry)
         c.labels("x").inc()
+        ready, told = os.pipe()
 
         def scrapes():
+            os.write(told, self.registry._scrape()[:1])
             while True:
-                self.registry.samples()
+                self.registry._scrape()
 
         child = self.fork(scrapes)
+        self.assertEqual(os.read(ready, 1), b"#")
+        os.close(ready)
+        os.close(told)
         for n in range(50):
-            time.sleep(0.005)
+            time.sleep(0.001)
             os.kill(child, signal.SIGSTOP)
             c.labels(str(n)).inc()
             os.kill(child, signal.SIGCONT)
         self.assertEqual(self.value("c_total", k="49"), 1)
+        self.assertEqual(os.waitpid(child, os.WNOHANG), (0, 0), "it scrapes on")
 
     def test_too_many(self):
         """The process for which no recorder is left is refused, and says so; when another one ends, its recorder goes to the next."""
