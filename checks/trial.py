@@ -16,15 +16,17 @@ FUNCTION = re.compile(r"^[ \t]*(?:pub(?:\([a-z]+\))? )?(?:const )?(?:unsafe )?(?
 
 
 def functions_of(crate, files):
-    """The functions in which the texts of these files differ from those of the crate, by name; None alone where it is in none."""
+    """The functions in which the texts of these files differ from those of the crate, or in whose proofs, by name; None alone where it is in none."""
     found = set()
     for path, text in files.items():
+        if path.startswith("proofs/"):
+            found.add(pathlib.Path(path).parent.name)
+            continue
         was = (crate / path).read_text()
         first = next(at for at, (one, other) in enumerate(zip(was, text)) if one != other)
         before = [it for it in FUNCTION.finditer(was) if it.start() <= first]
-        # What begins a line behind the last function, and is none itself, ends it.
-        inside = before and not re.search(r"^[}\w#]", was[before[-1].end() : first], re.M)
-        found.add(before[-1][1] if inside or before and was[before[-1].end() : first].count("\n}") == 0 else None)
+        # A bracket at a line's beginning behind the last function ends it.
+        found.add(before[-1][1] if before and was[before[-1].end() : first].count("\n}") == 0 else None)
     return found - {None} or found
 
 
@@ -55,7 +57,8 @@ def next_group(crate, left):
 
 def refused_in(told, name):
     """Whether a function, or any where it has no name here, is refused by itself: True or False; None where it waits for one that it calls."""
-    lines = re.findall(rf"^fn [\w:+#<>=,. ]*{rf'\b{name}' if name else ''}: (.*)$", told, re.M)
+    end = rf"\b{name}" if name else ""
+    lines = re.findall(rf"^fn [\w:+#<>=,. ]*{end}: (.*)$", told, re.M)
     bad = [line for line in lines if not re.match(r"proved|no holes", line)]
     if not bad:
         return False
