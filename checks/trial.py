@@ -56,8 +56,9 @@ def next_group(crate, left):
 
 
 def refused_in(told, name):
-    """Whether a function, or any where it has no name here, is refused by itself: True or False; None where it waits for one that it calls."""
-    end = rf"\b{name}" if name else ""
+    """Whether a function or a closure of it, or any where it has no name here, is refused by itself: True or False; None where it waits for one that
+    it calls."""
+    end = rf"(?:\b|fn::){name}(?:::[\w:+]*)?" if name else ""
     lines = re.findall(rf"^fn [\w:+#<>=,. ]*{end}: (.*)$", told, re.M)
     bad = [line for line in lines if not re.match(r"proved|no holes", line)]
     if not bad:
